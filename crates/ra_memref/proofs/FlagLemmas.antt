@@ -6,7 +6,7 @@ use Rattle.std.proofs.lemmas.Bool.{cases_eq, cases_lt, false≢true}
 use Rattle.std.proofs.lemmas.Nat.{shr-shr}
 use Rattle.std.proofs.lemmas.Nat.Bits.{bit_at-trailing_zeros, bit_at-zero, bit_at_above, bit_at_ones}
 use Rattle.std.specs.Int.{bit_at, trailing_zeros}
-use Rattle.ra_memref.specs.Flags.{AreBlocked, AreWorded, NoneSet}
+use Rattle.ra_memref.specs.Flags.{AreBlocked, AreWorded, FillsBetween, NoneSet, SetsBetween}
 
 -- none is set up to a place, and none from there on
 pub none_further : (flags : List Bool) (from at to : ℕ) → NoneSet flags from at → NoneSet flags at to
@@ -139,3 +139,36 @@ first_bit word from fits some =
   where
     back : (a b : ℕ) → a + b - a ≡ b
     back a b = omega arith
+
+-- the words of flags of which some in a row are set, and these words are full
+pub worded_between : (old new : List Bool) (words left : List ℕ) (from to : ℕ) → from < to → SetsBetween from to old new
+    → FillsBetween (from / 64) ((to - 1) / 64 + 1) words left → AreWorded old words → AreWorded new left
+worded_between old new words left from to some sets fills worded = record {
+  enough = omega (arith, worded.enough, sets.long, fills.long);
+  covered = λ k below is. elim (cases_lt (k / 64) (from / 64)) [
+    | inl low ↦ ap (λ w. bit_at w (k % 64)) (fills.before (k / 64) low)
+        ∙ worded.covered k (omega (arith, below, sets.long)) (sym (sets.before k (omega (arith, low))) ∙ is)
+    | inr high ↦ elim (cases_lt (k / 64) ((to - 1) / 64 + 1)) [
+      | inl within ↦ ap (λ w. bit_at w (k % 64)) (fills.full (k / 64) high within)
+          ∙ bit_at_ones 64 (k % 64) (omega arith)
+      | inr past ↦ ap (λ w. bit_at w (k % 64)) (fills.after (k / 64) past)
+          ∙ worded.covered k (omega (arith, below, sets.long)) (sym (sets.after k (omega (arith, past, some))) ∙ is)
+    ]
+  ];
+}
+
+-- and the blocks in which they stand
+pub blocked_between : (old new blocks left : List Bool) (from to : ℕ) → from < to → SetsBetween from to old new
+    → SetsBetween (from / 64) ((to - 1) / 64 + 1) blocks left → AreBlocked old blocks → AreBlocked new left
+blocked_between old new blocks left from to some sets fills blocked = record {
+  enough = omega (arith, blocked.enough, sets.long, fills.long);
+  covered = λ k below is. elim (cases_lt (k / 64) (from / 64)) [
+    | inl low ↦ fills.before (k / 64) low
+        ∙ blocked.covered k (omega (arith, below, sets.long)) (sym (sets.before k (omega (arith, low))) ∙ is)
+    | inr high ↦ elim (cases_lt (k / 64) ((to - 1) / 64 + 1)) [
+      | inl within ↦ fills.set_there (k / 64) high within
+      | inr past ↦ fills.after (k / 64) past
+          ∙ blocked.covered k (omega (arith, below, sets.long)) (sym (sets.after k (omega (arith, past, some))) ∙ is)
+    ]
+  ];
+}

@@ -4,6 +4,7 @@ pub mod CellsAlong
 pub mod ChangeLemmas
 pub mod Cuts
 pub mod DueLemmas
+pub mod EachCell
 pub mod FlagLemmas
 pub mod Halfway
 pub mod Holders

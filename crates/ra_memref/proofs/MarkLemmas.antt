@@ -51,22 +51,6 @@ marked_too from old now k watched is = elim (cases_lt k from) [
   | inr more ↦ marked_after from now k more ∙ ap (λ b. b || watched) (sym (marked_after from old k more))
 ]
 
--- one flag more is set
-pub sets_more : (from at : ℕ) (old now : List Bool) → from ≤ at → at < length old → SetsBetween from at old now
-    → SetsBetween from (at + 1) old (set now at true)
-sets_more from at old now least below sets = record {
-  long = length-set now at true ∙ sets.long;
-  set_there = λ k low high. elim (cases_eq k at) [
-    | inl here ↦ ap (λ i. get_or (set now at true) i true) here
-        ∙ get_or-set_same now at true true (omega (arith, below, sets.long))
-    | inr apart ↦ get_or-set_other now at k true true apart ∙ sets.set_there k low (omega (arith, high, apart))
-  ];
-  before = λ k low. get_or-set_other now at k true true (λ same. absurd (omega (arith, same, low, least)))
-      ∙ sets.before k low;
-  after = λ k high. get_or-set_other now at k true true (λ same. absurd (omega (arith, same, high)))
-      ∙ sets.after k (omega (arith, high));
-}
-
 -- each cell gets its own mark
 pub own_all : (from : ℕ) (old new : List Bool) → SetsBetween from (length old) old new → new ≡ marked_by from old
 own_all from old new sets = ext_get_or true new (marked_by from old) (sets.long ∙ sym (length-marked_by from old))

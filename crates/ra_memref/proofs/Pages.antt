@@ -301,3 +301,12 @@ watched_none size place width at = same_tests (is_watched size place width at 0)
     let some : 0 < 0 = ltb-true 0 0 (and_parts (nat_lt 0 0)
     (nat_le (page_of at) (page_of found.0) && nat_le (page_of found.0) (page_of (at + 0 - 1))) both.1).0 in
     absurd (omega (arith, some))) (λ is. absurd (false≢true is))
+
+-- a cell whose first byte stands on one of these pages watches it
+pub watched_first : (size first end place width : ℕ) → place < size → first ≤ place / 16 → place / 16 < end
+    → watches_between size first end place width ≡ true
+watched_first size first end place width within above below =
+    or_left (is_between first end (first_page size place)) (reaches size first end place width)
+    (ap (λ b. is_between first end (if b then Some (page_of place) else None)) (lt-ltb place size within)
+    ∙ and_from (nat_le first (page_of place)) (nat_lt (page_of place) end) (le-leb first (page_of place) above)
+    (lt-ltb (page_of place) end below))

@@ -8,8 +8,8 @@ use Rattle.ra_memref.specs.Marking.{is_at, is_before, is_between}
 use Rattle.ra_memref.specs.Watches.{WatchesSeen, IsIndexed, MarksWatchers, marked_by, first_page, reaches}
 use Rattle.ra_memref.specs.Watches.{watches_between}
 use Rattle.ra_memref.specs.contracts.watches.Watches.{the_view}
-use Rattle.ra_memref.proofs.MarkLemmas.{length-marked_by, marked_too}
-use Rattle.ra_memref.proofs.Pages.{between_more, watched_is, watched_none, watches_by}
+use Rattle.ra_memref.proofs.MarkLemmas.{length-marked_by, marked_after, marked_too}
+use Rattle.ra_memref.proofs.Pages.{between_more, watched_first, watched_is, watched_none, watches_by}
 
 -- the watches with other marks
 abbrev pub with_marks : Inside → List Bool → Inside
@@ -115,6 +115,26 @@ told_all old now seen marks at count view_is whole is some telling long marked =
     ∙ or_joined (get_or old.marks k true) (is_between first end (page_in old k))
     (is_before (page_in old k) first && reaches old.size first end place width)
     ∙ ap (λ b. get_or old.marks k true || b) (watches_by old.size first end place width wide.1 wide.0))))
+
+or_true : (b : Bool) → (b || true) ≡ true
+or_true true = refl
+or_true false = refl
+
+-- where all bytes of the image are told, and each cell lies in it by its first byte, all cells are marked
+pub told_whole : (old : Inside) (seen : WatchesSeen) (at count : ℕ) → the_view old ≡ seen
+    → IsIndexed old.listed old.widths.items old.places.items old.marks old.pages → 0 < count
+    → at + count ≤ seen.size → count ≡ old.size
+    → ((k : ℕ) → k < length old.places.items → slice_index old.places.items k < old.size)
+    → MarksWatchers seen (with_marked old 0 old.marks) at count
+told_whole old seen at count view_is is some fits whole within =
+    let size : old.size ≡ seen.size = ap (λ (w : WatchesSeen). w.size) view_is in
+    told_together old seen 0 old.marks at count view_is is some refl (λ k below.
+    marked_after 0 old.marks k (omega arith)
+    ∙ sym (ap (λ b. get_or (marked_by old.marked_from old.marks) k true || b)
+    (watched_first old.size (at / 16) ((at + count - 1) / 16 + 1) (slice_index old.places.items k)
+    (slice_index old.widths.items k) (within k below) (omega (arith, fits, whole, size))
+    (omega (arith, within k below, fits, whole, size)))
+    ∙ or_true (get_or (marked_by old.marked_from old.marks) k true)))
 
 or_false : (b : Bool) → b ≡ (b || false)
 or_false true = refl

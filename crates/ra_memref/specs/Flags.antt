@@ -1,6 +1,6 @@
 -- Rows of flags.
-use Rattle.std.specs.Prelude.{◌≡◌, ◌≢◌, ℕ, ◌+◌, ◌*◌, ◌/◌, ◌%◌, ◌<◌, ◌≤◌, Bool, true, false, List, length, slice_index}
-use Rattle.std.specs.Prelude.{slice_index_or}
+use Rattle.std.specs.Prelude.{◌≡◌, ◌≢◌, ℕ, ◌+◌, ◌-◌, ◌*◌, ◌/◌, ◌%◌, ◌^◌, ◌<◌, ◌≤◌, Bool, true, false, List, length}
+use Rattle.std.specs.Prelude.{slice_index, slice_index_or}
 use Rattle.std.specs.Int.{bit_at}
 use Rattle.ra_links.specs.FlatRows.{IsListed}
 
@@ -32,6 +32,13 @@ pub record SetsBetween (from to : ℕ) (old new : List Bool) : Type 0 where
   pub set_there : (k : ℕ) → from ≤ k → k < to → slice_index_or new k true ≡ true
   pub before : (k : ℕ) → k < from → slice_index_or new k true ≡ slice_index_or old k true
   pub after : (k : ℕ) → to ≤ k → slice_index_or new k true ≡ slice_index_or old k true
+
+-- all bits of the words from one on and before another are set, and the others are what they were
+pub record FillsBetween (first end : ℕ) (old new : List ℕ) : Type 0 where
+  pub long : length new ≡ length old
+  pub full : (k : ℕ) → first ≤ k → k < end → slice_index new k ≡ 2 ^ 64 - 1
+  pub before : (k : ℕ) → k < first → slice_index new k ≡ slice_index old k
+  pub after : (k : ℕ) → end ≤ k → slice_index new k ≡ slice_index old k
 
 -- some flags are set: each of these places has its flag, what is still not set was not, and what became set is one of
 -- them

@@ -46,6 +46,11 @@ impl Changes {
         }
     }
 
+    // More nodes than this many are listed. No clause speaks of what it tells.
+    pub(crate) fn are_more(&self, many: usize) -> bool {
+        self.nodes.len() > many
+    }
+
     /// The listed nodes, in the order in which they were noted.
     pub fn listed(&self) -> &[u32]
         ensures { result.now ≡ self.now.listed }

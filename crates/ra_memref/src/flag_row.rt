@@ -1,6 +1,6 @@
 ghost use Rattle.std.specs.Prelude.{◌≡◌, ◌-◌, ◌/◌, ◌^◌, ◌<◌, ◌≤◌, ℕ, true, false, length, replicate, slice_index, slice_index_or, slice_set, IfOk, IfSome, None};
 ghost use Rattle.std.specs.Int.{bit_at};
-ghost use Rattle.ra_memref.specs.Flags.{NoneSet, IsFirstSet, SetsBit};
+ghost use Rattle.ra_memref.specs.Flags.{FillsBetween, NoneSet, IsFirstSet, SetsBetween, SetsBit};
 
 use ra_text::OutOfMemory;
 use std::alloc::Global;
@@ -89,6 +89,16 @@ impl FlagRow {
     {
         fill_flags(&mut self.flags);
         fill_words(&mut self.words);
+    }
+
+    /// Sets the flags from a place on and before another.
+    pub fn set_between(&mut self, from: usize, to: usize)
+        requires some { from < to }
+        requires within { to ≤ length self.old }
+        ensures { SetsBetween from to self.old self.new }
+    {
+        set_each(&mut self.flags, from, to);
+        fill_between(&mut self.words, from / WORD, (to - 1) / WORD + 1);
     }
 
     /// Takes back the flags from a place on.
@@ -187,6 +197,28 @@ fn fill_words(words: &mut Vec<u64>)
     ensures { words.new.items ≡ replicate (length words.old.items) (2 ^ 64 - 1) }
 {
     words.fill(u64::MAX);
+}
+
+// Sets the flags from a place on and before another.
+fn set_each(flags: &mut Vec<bool>, from: usize, to: usize)
+    requires order { from ≤ to }
+    requires within { to ≤ length flags.old.items }
+    ensures { SetsBetween from to flags.old.items flags.new.items }
+{
+    for place in from..to {
+        flags[place] = true;
+    }
+}
+
+// Sets all bits of the words from one on and before another.
+fn fill_between(words: &mut Vec<u64>, first: usize, end: usize)
+    requires order { first ≤ end }
+    requires within { end ≤ length words.old.items }
+    ensures { FillsBetween first end words.old.items words.new.items }
+{
+    for word in first..end {
+        words[word] = u64::MAX;
+    }
 }
 
 // Takes back the flags from a place on.

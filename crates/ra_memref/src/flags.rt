@@ -1,7 +1,7 @@
 //! Rows of flags.
 
 ghost use Rattle.std.specs.Prelude.{◌≡◌, ◌+◌, ◌*◌, ◌/◌, ◌^◌, ◌<◌, ◌≤◌, ℕ, true, length, replicate, slice_index_or, slice_set, IfOk, IfSome, None};
-ghost use Rattle.ra_memref.specs.Flags.{AreBlocked, IsFirstSet, NoneSet, SetsAll};
+ghost use Rattle.ra_memref.specs.Flags.{AreBlocked, IsFirstSet, NoneSet, SetsAll, SetsBetween};
 ghost use Rattle.ra_memref.specs.Table.{IsListed};
 
 use crate::flag_row::FlagRow;
@@ -70,6 +70,30 @@ impl Flags {
         if self.blocks.is_set(place / BLOCK) != left {
             self.blocks.put(place / BLOCK, left);
         }
+    }
+
+    /// Sets the flags from a place on and before another.
+    #[inline]
+    pub fn set_between(&mut self, from: usize, to: usize)
+        requires order { from ≤ to }
+        requires within { to ≤ length self.old }
+        ensures { SetsBetween from to self.old self.new }
+    {
+        if from < to {
+            self.set_some(from, to);
+        }
+    }
+
+    // Does so for one flag or more.
+    #[inline(never)]
+    fn set_some(&mut self, from: usize, to: usize)
+        requires some { from < to }
+        requires within { to ≤ length self.old }
+        ensures { SetsBetween from to self.old self.new }
+    {
+        self.any = true;
+        self.flags.set_between(from, to);
+        self.blocks.set_between(from / BLOCK, (to - 1) / BLOCK + 1);
     }
 
     // More flags than this many may be set. No clause speaks of what it tells.

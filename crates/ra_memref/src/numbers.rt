@@ -248,8 +248,8 @@ impl Numbers {
     }
 
     /// Makes the cells due whose number is not the one of the frame before, unless these are more than
-    /// half of all, which it tells.
-    pub fn note_cells(&self, due: &mut Flags, cell_nodes: &[u32]) -> bool
+    /// half of all, or as many nodes changed, which it tells.
+    pub(crate) fn note_cells(&self, changes: &Changes, due: &mut Flags, cell_nodes: &[u32]) -> bool
         requires cells { length cell_nodes.now ≡ length self.now.cells }
         requires few { length due.old < 2 ^ 30 }
         requires within { (k : ℕ) → k < length cell_nodes.now → slice_index cell_nodes.now k < length due.old }
@@ -260,6 +260,9 @@ impl Numbers {
             → slice_index_or due.new (slice_index cell_nodes.now cell) true ≡ false
             → earlier_at self.now cell ≡ slice_index self.now.cells cell }
     {
+        if changes.are_more(self.values.len() / SHARE) {
+            return true;
+        }
         let mut room = cell_nodes.len() / SHARE;
         let (cells, earlier) = (&self.cells, &self.earlier);
         for cell in 0..cell_nodes.len() {

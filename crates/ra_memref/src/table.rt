@@ -168,9 +168,11 @@ impl Table {
             .numbers
             .take_frame(image, &plan, &mut self.agenda.due, &mut self.changes);
         self.agenda.all = in_order
-            && self
-                .numbers
-                .note_cells(&mut self.agenda.due, &self.agenda.cell_nodes);
+            && self.numbers.note_cells(
+                &self.changes,
+                &mut self.agenda.due,
+                &self.agenda.cell_nodes,
+            );
         self.sampled = true;
     }
 

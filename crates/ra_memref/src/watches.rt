@@ -1,5 +1,5 @@
 ghost use Rattle.std.specs.Prelude.{◌≡◌, ◌≢◌, ◌+◌, ◌-◌, ◌*◌, ◌<◌, ◌≤◌, ◌^◌, ◌==◌, ◌&&◌, ◌||◌, not, ℕ, [], true, false, length, replicate, slice_index, slice_index_or, slice_set, IfOk, IfSome, None, count_by};
-ghost use Rattle.ra_memref.specs.Flags.{NoneSet, IsFirstSet, SetsBetween};
+ghost use Rattle.ra_memref.specs.Flags.{NoneSet, IsFirstSet};
 ghost use Rattle.ra_memory.specs.Image.{IsReadWidth};
 ghost use Rattle.ra_links.specs.Rows.{holder_of};
 ghost use Rattle.ra_memref.specs.Watches.{IsOrder, order_by, one_unmarked, MarksWatchers, MarksOthers, marked_by, pages_of, first_page, second_page, reaches, watches_between};
@@ -139,7 +139,7 @@ impl Watches {
     }
 
     /// Marks the cells that watch a page of one of `count` bytes from the address `at` on: by the lists of
-    /// these pages and of the page before them, and where there are none or all bytes are told, cell by cell.
+    /// these pages and of the page before them, and where there are none or the pages are many, cell by cell.
     #[inline(never)]
     pub fn tell(&mut self, at: u32, count: u32)
         requires within { at + count ≤ self.old.size }
@@ -155,8 +155,13 @@ impl Watches {
             self.tell_cells(at, count);
             return;
         }
-        if end - first >= self.size / PAGE {
+        let pages = end - first;
+        if pages >= self.size / PAGE {
             self.tell_cells(at, count);
+            return;
+        }
+        if pages > self.size / PAGE / 2 || pages as usize > self.places.len() {
+            self.tell_each(at, count);
             return;
         }
         for page in first..end {
@@ -177,6 +182,10 @@ impl Watches {
         requires some { 0 < count }
         ensures { MarksWatchers self.old self.new at count }
     {
+        if count == self.size && are_within(&self.places, self.size) {
+            self.marked_from = 0;
+            return;
+        }
         let first = at / PAGE;
         let end = (at + count - 1) / PAGE + 1;
         let cells = CellPlaces {
@@ -191,6 +200,23 @@ impl Watches {
             first,
             end,
         );
+    }
+
+    // Does so cell by cell, for some bytes, so that no cell is marked together with others that was not.
+    #[inline(never)]
+    fn tell_each(&mut self, at: u32, count: u32)
+        requires within { at + count ≤ self.old.size }
+        requires small { self.old.size ≤ 2 ^ 27 }
+        requires some { 0 < count }
+        ensures { MarksWatchers self.old self.new at count }
+    {
+        let first = at / PAGE;
+        let end = (at + count - 1) / PAGE + 1;
+        let cells = CellPlaces {
+            places: &self.places,
+            widths: &self.widths,
+        };
+        mark_each(&mut self.marks, &cells, self.size, first, end);
     }
 
     /// Marks each cell that is not marked and has another number in the image, at its place, than this one.
@@ -262,7 +288,7 @@ fn unmark_together(marks: &mut Flags, marked_from: usize, cell: usize)
     ensures unmarked { marked_by (cell + 1) marks.new ≡ slice_set (marked_by marked_from marks.old) cell false }
     ensures later { (k : ℕ) → cell < k → slice_index_or marks.new k true ≡ slice_index_or marks.old k true }
 {
-    set_between(marks, marked_from, cell);
+    marks.set_between(marked_from, cell);
     take_back(marks, cell);
 }
 
@@ -290,19 +316,8 @@ fn own_marks(marks: &mut Flags, marked_from: usize, count: usize) -> usize
     if count <= marked_from {
         return marked_from;
     }
-    set_between(marks, marked_from, count);
+    marks.set_between(marked_from, count);
     count
-}
-
-// Sets the flags from a place on and before another.
-fn set_between(marks: &mut Flags, from: usize, to: usize)
-    requires order { from ≤ to }
-    requires within { to ≤ length marks.old }
-    ensures { SetsBetween from to marks.old marks.new }
-{
-    for place in from..to {
-        marks.put(place, true);
-    }
 }
 
 // Marks the cells on a list.
@@ -353,6 +368,40 @@ fn mark_reaching(
         }
         next = lists.next(node);
     }
+}
+
+// Whether the first byte of each cell lies in an image of this size.
+fn are_within(places: &[u32], size: u32) -> bool
+    ensures { result ≡ true → (k : ℕ) → k < length places.now → slice_index places.now k < size }
+{
+    let mut most: u32 = 0;
+    for cell in 0..places.len() {
+        if most < places[cell] {
+            most = places[cell];
+        }
+    }
+    most < size
+}
+
+// Marks the cells that watch one of the pages from the first one on and before the end, those side by side at once.
+fn mark_each(marks: &mut Flags, cells: &CellPlaces<'_>, size: u32, first: u32, end: u32)
+    requires places { length cells.now.places.now ≡ length marks.old }
+    requires widths { length cells.now.widths.now ≡ length marks.old }
+    requires wide { (k : ℕ) → k < length marks.old → IsReadWidth (slice_index cells.now.widths.now k) }
+    ensures long { length marks.new ≡ length marks.old }
+    ensures marked { (k : ℕ) → k < length marks.old → slice_index_or marks.new k true
+        ≡ (slice_index_or marks.old k true
+        || watches_between size first end (slice_index cells.now.places.now k) (slice_index cells.now.widths.now k)) }
+{
+    let (places, widths) = (cells.places, cells.widths);
+    let mut from: usize = 0;
+    for cell in 0..places.len() {
+        if !is_watcher(size, first, end, places[cell], widths[cell]) {
+            marks.set_between(from, cell);
+            from = cell + 1;
+        }
+    }
+    marks.set_between(from, places.len());
 }
 
 // Marks the cells that watch one of the pages from the first one on and before the end, and tells from where on cells are

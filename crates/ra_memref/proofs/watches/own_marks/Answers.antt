@@ -9,5 +9,5 @@ returns-then-count-marked_from-clause-own c =
     sym (marked_past c.args.marked_from c.args.marks.now past)
 
 pub returns-clause-own : goal.returns-clause-own
-returns-clause-own c = own_all c.args.marked_from c.args.marks.now c.set_between.new.marks (subst
-    (λ n. SetsBetween c.args.marked_from n c.args.marks.now c.set_between.new.marks) c.requires c.set_between.ensures)
+returns-clause-own c = own_all c.args.marked_from c.args.marks.now c.set_between.new.self (subst
+    (λ n. SetsBetween c.args.marked_from n c.args.marks.now c.set_between.new.self) c.requires c.set_between.ensures)

@@ -1,5 +1,0 @@
-use Rattle.ra_memref.specs.Flags.{SetsBetween}
-use Rattle.ra_memref.proofs.watches.set_between.Given as goal
-
-abbrev pub invariant-loop-place : goal.invariant-loop-place
-invariant-loop-place l = SetsBetween l.from l.place l.initial.marks l.marks
