@@ -1,5 +1,6 @@
 -- The line at a place, stepped.
-use Rattle.std.proofs.Common.{◌≡◌, ℕ, ◌<◌, Bool, Option, List, length, map, get_or, set, slice_set, sym, ◌∙◌, ap, subst}
+use Rattle.std.proofs.Common.{◌≡◌, ℕ, ◌<◌, Bool, true, Option, List, length, map, get_or, set, slice_set, sym}
+use Rattle.std.proofs.Common.{◌∙◌, ap, subst}
 use Rattle.std.proofs.Common.{arith}
 use Rattle.std.proofs.Math.Path.{transport}
 use Rattle.std.proofs.lemmas.List.{get_or-map, get_or_default, length-map}
@@ -41,11 +42,12 @@ module _ (table : TableSeen) (lines : List Line) (place : ℕ) (olds news : List
     (was_is : was ≡ get_or olds place was) (had_is : had ≡ get_or old.each.items place had)
     (owed_is : owed ≡ as_hits_tell (owed_at old.schedule place)) where
   pub stepped_at : news ≡ set olds place run → new.each.items ≡ set old.each.items place counts →
-      new.schedule ≡ noted_at place rests old.schedule → new.holds ≡ slice_set old.holds place holds
+      new.schedule ≡ noted_at place rests old.schedule → (rests ≡ true → old.schedule.truths.known ≡ true)
+      → new.holds ≡ slice_set old.holds place holds
       → IsLineRun table.nodes (line_contents line) run → HasLineRoom (line_contents line) counts
       → StepsNoted table (line_contents line) (seen_line was had owed) rests counts run holds
       → IsLineSteppedAt table (map line_contents lines) place olds news old new
-  stepped_at runs each schedule all one room steps = record {
+  stepped_at runs each schedule known all one room steps = record {
     run = run;
     counts = counts;
     rests = rests;
@@ -53,6 +55,7 @@ module _ (table : TableSeen) (lines : List Line) (place : ℕ) (olds news : List
     runs = runs;
     each = each;
     schedule = schedule;
+    known = known;
     all = all;
     is = λ d. subst (λ (l : LineContents). IsLineRun table.nodes l run)
         (sym (contents_at lines place line d within is)) one;

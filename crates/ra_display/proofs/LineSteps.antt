@@ -133,7 +133,7 @@ module _ (table : TableSeen) (frame : IsSomeFrame table) (lines : List LineConte
     runs_too = were_runs;
     each_many = were.many;
     holds_many = were.holds;
-    along = along_begins start;
+    along = along_begins start begun.awake;
     under_way = λ line m c. taken_begins (Place LineSpot) start.readers.due (place_of LineSpot start
         (spots olds before m c)) (LineTook table lines line olds before m c);
   }
@@ -240,7 +240,8 @@ module _ (table : TableSeen) (frame : IsSomeFrame table) (lines : List LineConte
               (runs_set table.nodes lines runs place steps.run far.runs_too steps.is);
           each_many = ap length steps.each ∙ length-set rests.each.items place steps.counts ∙ far.each_many;
           holds_many = ap length steps.all ∙ length-set rests.holds place steps.holds ∙ far.holds_many;
-          along = along_on start rests.schedule after.schedule place steps.rests far.along steps.schedule;
+          along = along_on start rests.schedule after.schedule place steps.rests far.along first.within
+              steps.known steps.schedule;
           under_way = λ line d c.
               under_way_on LineSpot (LineTook table lines line olds before d c) start
               (spots olds before d c) rests.schedule (spots runs rests d c) at place far.along
@@ -300,7 +301,7 @@ module _ (table : TableSeen) (frame : IsSomeFrame table) (lines : List LineConte
             told_by_rows (λ (now later : Instant). MemberSeesSame now later
             (line_member (get_or lines k line))) table.nodes before.schedule
             lines_after.schedule k (far.along.rows ∙ begun.woken.rows)
-            (ap (λ (t : TruthsSeen). t.comparisons) far.along.truths ∙ begun.truths.comparisons)
+            (ap (λ (t : TruthsSeen). t.comparisons) far.along.truths ∙ begun.comparisons)
             (were.told_of k within line);
         room = λ k within line c. (known k within line (a_run k within) c).steps.1;
         at_rest = record {
@@ -312,7 +313,7 @@ module _ (table : TableSeen) (frame : IsSomeFrame table) (lines : List LineConte
               (a_counts k within)).early;
           rests = λ k within quiet. (known k within (element lines k within) (a_run k within)
               (a_counts k within)).rests quiet;
-          known = λ k within quiet. ap (λ (t : TruthsSeen). t.known) far.along.truths ∙ begun.truths.known;
+          known = λ k within quiet. far.along.awake k quiet;
           on = λ k within quiet line c run. (known k within line run c).on quiet;
         };
       }

@@ -165,6 +165,7 @@ pub record IsLineSteppedAt (table : TableSeen) (lines : List LineContents) (plac
   pub runs : news ≡ set olds place run
   pub each : new.each.items ≡ set old.each.items place counts
   pub schedule : new.schedule ≡ noted_at place rests old.schedule
+  pub known : rests ≡ true → old.schedule.truths.known ≡ true
   pub all : new.holds ≡ slice_set old.holds place holds
   pub is : (line : LineContents) → IsLineRun table.nodes (get_or lines place line) run
   pub room : (line : LineContents) → HasLineRoom (get_or lines place line) counts

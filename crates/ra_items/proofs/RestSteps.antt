@@ -209,7 +209,7 @@ module _ (table : TableSeen) (frame : IsSomeFrame table) (items : List ItemConte
     count = omega arith;
     below = tt;
     told = refl;
-    along = along_begins start;
+    along = along_begins start begun.awake;
     under_way = λ item r b. taken_begins (Place ItemSpot) start.readers.due (place_of ItemSpot start
         (spots olds before r b)) (ItemTook table items item olds before r b);
   }
@@ -349,7 +349,8 @@ module _ (table : TableSeen) (frame : IsSomeFrame table) (items : List ItemConte
               (λ no. events_here items runs place steps.run an_item here (omega (arith, here, runs_many))
               ∙ steps.silent no an_item)
               ∙ (λ i. events_of items (sym steps.runs i) (sym due_now i));
-          along = along_on start rests.schedule after.schedule place steps.rests far.along steps.schedule;
+          along = along_on start rests.schedule after.schedule place steps.rests far.along first.within
+              steps.known steps.schedule;
           under_way = λ item r b.
               under_way_on ItemSpot (ItemTook table items item olds before r b) start
               (spots olds before r b) rests.schedule (spots runs rests r b) at place far.along
@@ -410,7 +411,7 @@ module _ (table : TableSeen) (frame : IsSomeFrame table) (items : List ItemConte
             told_by_rows (λ (now later : Instant). ItemSeesSame now later (get_or items k item))
             table.nodes before.schedule items_after.schedule k (far.along.rows
             ∙ begun.woken.rows)
-            (ap (λ (t : TruthsSeen). t.comparisons) far.along.truths ∙ begun.truths.comparisons)
+            (ap (λ (t : TruthsSeen). t.comparisons) far.along.truths ∙ begun.comparisons)
             (were.told_of k within item);
         rooms = λ k within item b. (known k within item (a_run k within) b).steps.1;
         at_rest = record {
@@ -422,7 +423,7 @@ module _ (table : TableSeen) (frame : IsSomeFrame table) (items : List ItemConte
               (a_before k within)).early;
           rests = λ k within quiet. (known k within (element items k within) (a_run k within)
               (a_before k within)).rests quiet;
-          known = λ k within quiet. ap (λ (t : TruthsSeen). t.known) far.along.truths ∙ begun.truths.known;
+          known = λ k within quiet. far.along.awake k quiet;
           on = λ k within quiet item b run. (known k within item run b).on quiet;
         };
       }

@@ -1,5 +1,6 @@
 -- The item at a place, stepped.
-use Rattle.std.proofs.Common.{◌≡◌, ℕ, ◌+◌, ◌<◌, Bool, false, if◌then◌else◌, Option, List, [], length, map, get_or, set}
+use Rattle.std.proofs.Common.{◌≡◌, ℕ, ◌+◌, ◌<◌, Bool, true, false, if◌then◌else◌, Option, List, [], length, map}
+use Rattle.std.proofs.Common.{get_or, set}
 use Rattle.std.proofs.Common.{slice_set, sym, ◌∙◌, ap, subst, arith}
 use Rattle.std.proofs.Math.Path.{transport}
 use Rattle.std.proofs.lemmas.List.{get_or-map, get_or_default, length-map}
@@ -44,14 +45,14 @@ module _ (table : TableSeen) (items : List Item) (place : ℕ) (olds news : List
     (was_is : was ≡ get_or olds place was) (had_is : had ≡ get_or old.each.items place had)
     (owed_is : owed ≡ as_hits_tell (owed_at old.schedule place)) where
   pub stepped_at : news ≡ set olds place run → new.each.items ≡ set old.each.items place before
-      → new.schedule ≡ noted_at place rests old.schedule
+      → new.schedule ≡ noted_at place rests old.schedule → (rests ≡ true → old.schedule.truths.known ≡ true)
       → new.stepped.items ≡ slice_set old.stepped.items old.count place → new.count
       ≡ old.count + (if tells then 1 else 0)
       → (tells ≡ false → (item : ItemContents) → run_events item run ≡ [])
       → IsItemRun table.nodes (item_contents item) run → HasRoom (item_contents item) before
       → StepsRest table (item_contents item) (seen_run was had owed) rests before run
       → IsSteppedAt table (map item_contents items) place olds news old new
-  stepped_at runs each schedule stepped count silent one room steps = record {
+  stepped_at runs each schedule known stepped count silent one room steps = record {
     run = run;
     before = before;
     rests = rests;
@@ -59,6 +60,7 @@ module _ (table : TableSeen) (items : List Item) (place : ℕ) (olds news : List
     runs = runs;
     each = each;
     schedule = schedule;
+    known = known;
     stepped = stepped;
     count = count;
     silent = λ no d. silent no (get_or (map item_contents items) place d);

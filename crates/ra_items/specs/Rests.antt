@@ -108,6 +108,7 @@ pub record IsSteppedAt (table : TableSeen) (items : List ItemContents) (place : 
   pub runs : news ≡ set olds place run
   pub each : new.each.items ≡ set old.each.items place before
   pub schedule : new.schedule ≡ noted_at place rests old.schedule
+  pub known : rests ≡ true → old.schedule.truths.known ≡ true
   pub stepped : new.stepped.items ≡ slice_set old.stepped.items old.count place
   pub count : new.count ≡ old.count + (if tells then 1 else 0)
   pub silent : tells ≡ false → (item : ItemContents) → run_events (get_or items place item) run ≡ []

@@ -80,12 +80,15 @@ pub record MayBegin (table : TableSeen) (s : ScheduleSeen) : Type 0 where
   pub told : s.truths.known ≡ true → IsTold s.truths.comparisons s.truths.truths table
   pub changed : (k : ℕ) → k < length table.changed → slice_index table.changed k < length table.nodes
 
--- a frame begins by a table: the truths are taken, who reads a signal that changed is due, and none owes more or less;
--- where not many changed, who became due reads one
+-- a frame begins by a table: the truths are taken, or none is known and all are due; who reads a signal that changed is
+-- due, and none owes more or less; where the truths are taken and not many signals changed, who became due reads one
 pub record Begins (table : TableSeen) (old new : ScheduleSeen) : Type 0 where
-  pub truths : Takes old.truths new.truths table
+  pub comparisons : new.truths.comparisons ≡ old.truths.comparisons
+  pub nodes : new.truths.nodes ≡ old.truths.nodes
+  pub truths : new.truths.known ≡ true → Takes old.truths new.truths table
+  pub awake : (k : ℕ) → is_due new k ≡ false → new.truths.known ≡ true
   pub woken : IsWoken old.clock (signals_at table new.truths) old.readers new.readers
-  pub only : IsWokenAlone old.clock (signals_at table new.truths) old.readers new.readers
+  pub only : new.truths.known ≡ true → IsWokenAlone old.clock (signals_at table new.truths) old.readers new.readers
   pub since : new.since ≡ old.since
   pub clock : new.clock ≡ old.clock
 

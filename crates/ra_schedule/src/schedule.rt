@@ -1,4 +1,4 @@
-ghost use Rattle.std.specs.Prelude.{◌≡◌, ◌≤◌, ◌<◌, ℕ, true, None, length, slice_index, slice_index_or, IfOk, IfSome};
+ghost use Rattle.std.specs.Prelude.{◌&&◌, ◌≡◌, ◌≤◌, ◌<◌, ℕ, true, None, length, slice_index, slice_index_or, IfOk, IfSome};
 ghost use Rattle.ra_memref.specs.Flags.{NoneSet, IsFirstSet};
 ghost use Rattle.ra_schedule.specs.Schedules.{Begins, MayBegin, ScheduleSeen, as_hits_tell, next_count, no_truths, noted_at, nothing_owed, owed_at};
 
@@ -12,6 +12,12 @@ use ra_truths::Truths;
 use std::alloc::Global;
 use std::marker::Model;
 
+// How hot it is where frames are passed over: many signals changed at some three frames more than at others.
+const HOT: u32 = 6;
+
+// How many frames are passed over before one is looked at, after which as many are where many signals changed at it.
+const PASSED_OVER: u32 = 60;
+
 /// Which places are due at a frame, and since when each other one rests: docs/INTERNALS.md, "Schedules".
 ///
 /// Its owner lets a frame begin by a table, takes the places that are due one by one, pays what
@@ -24,8 +30,10 @@ pub struct Schedule {
     since: Vec<Option<u64>>,
     // a count of frames that only goes on
     clock: u64,
-    // at how many frames in a row many signals changed
-    crowded: u32,
+    // two more at each frame at which many signals changed, and one less at each other one
+    heat: u32,
+    // at how many frames no truth is computed
+    passed_over: u32,
 }
 
 impl Model for Schedule {
@@ -62,7 +70,8 @@ impl Schedule {
             truths,
             since,
             clock: 0,
-            crowded: 0,
+            heat: 0,
+            passed_over: 0,
         })
     }
 
@@ -70,21 +79,41 @@ impl Schedule {
     /// changed, is due. Where more than a quarter of all signals did, or the count of frames is at its end, all are.
     /// No memory is taken.
     ///
-    /// It tells whether it looks as if few places would come to rest. No clause says when it does.
+    /// It tells whether it looks as if few places would come to rest. After some frames in a row at which many signals changed
+    /// all places are due at most of those that follow, and no truth is known. No clause says when.
     pub fn begin(&mut self, table: &Table) -> bool
         requires { MayBegin table.now self.old }
         ensures { Begins table.now self.old self.new }
     {
+        if self.passed_over > 0 {
+            self.passed_over -= 1;
+            self.truths.skip();
+            self.readers.wake_all();
+            return true;
+        }
         self.truths.take(table);
         let many = many_changed(&self.readers, table, &self.truths);
         let all = many || self.clock == u64::MAX;
         wake(&mut self.readers, table, &self.truths, all);
-        self.crowded = if many {
-            self.crowded.wrapping_add(1)
+        self.note_many(many)
+    }
+
+    // Notes whether many signals changed, and tells whether they did at many of the last frames: then the next frames are
+    // passed over. No clause speaks of it.
+    fn note_many(&mut self, many: bool) -> bool
+        ensures { self.new ≡ self.old }
+    {
+        self.heat = if many {
+            self.heat.saturating_add(2)
         } else {
-            0
+            self.heat.saturating_sub(1)
         };
-        self.crowded % 32 > 1
+        if self.heat < HOT {
+            return false;
+        }
+        self.heat = HOT - 2;
+        self.passed_over = PASSED_OVER;
+        true
     }
 
     /// The first place from one on that is due. None exactly where none is.
@@ -106,13 +135,14 @@ impl Schedule {
         }
     }
 
-    /// Notes that a place that was due is stepped, and whether it rests from the next count of frames on.
+    /// Notes that a place that was due is stepped, and whether it rests from the next count of frames on, which nothing does
+    /// whose truths are not known.
     pub fn note(&mut self, place: usize, rests: bool)
         requires here { place < length self.old.readers.due }
         requires due { slice_index_or self.old.readers.due place true ≡ true }
-        ensures { self.new ≡ noted_at place rests self.old }
+        ensures { self.new ≡ noted_at place (rests && self.old.truths.known) self.old }
     {
-        if rests {
+        if rests && self.truths.is_known() {
             self.since[place] = Some(self.clock.saturating_add(1));
             self.readers.put(place, false);
         } else {

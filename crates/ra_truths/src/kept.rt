@@ -57,6 +57,7 @@ impl Kept {
     {
         if self.truths[place as usize] != truth {
             self.truths[place as usize] = truth;
+            // There is memory for the place of each truth.
             let _ = self.places.push(place);
         }
     }

@@ -123,6 +123,21 @@ impl Truths {
         self.known = true;
     }
 
+    /// Passes over a frame: no truth is known until a frame is taken, and none is listed.
+    pub fn skip(&mut self)
+        ensures { self.new ≡ record self.old { flipped = []; known = false } }
+    {
+        self.kept.clear();
+        self.known = false;
+    }
+
+    /// Whether the truths are those of the last frame.
+    pub fn is_known(&self) -> bool
+        ensures { result ≡ self.now.known }
+    {
+        self.known
+    }
+
     /// Whether the comparison of a number holds, by the values of the frame that was taken last.
     pub fn truth(&self, number: u32) -> bool
         requires number { number < length self.now.comparisons }

@@ -1,8 +1,10 @@
 -- The places that are due, stepped one after the other: what holds of each of them after a frame, due or not.
-use Rattle.std.proofs.Common.{◌≡◌, ◌⊎◌, inl, inr, ℕ, ◌+◌, ◌-◌, ◌<◌, ◌≤◌, not, Bool, true, false, Option, None, Some}
-use Rattle.std.proofs.Common.{IfSome, if◌then◌else◌, List, length, slice_index_or, refl, sym, ◌∙◌, ap, subst, arith}
+use Rattle.std.proofs.Common.{◌≡◌, ◌⊎◌, inl, inr, ℕ, ◌+◌, ◌-◌, ◌<◌, ◌≤◌, not, ◌&&◌, Bool, true, false, Option, None}
+use Rattle.std.proofs.Common.{Some, IfSome, slice_set, if◌then◌else◌, List, length, slice_index_or, refl, sym, ◌∙◌, ap}
+use Rattle.std.proofs.Common.{subst, arith}
 use Rattle.std.specs.Option.{is_some}
 use Rattle.std.proofs.Math.Path.{transport}
+use Rattle.std.proofs.lemmas.Bool.{cases_eq}
 use Rattle.std.proofs.lemmas.List.{get_or-set_same, get_or-set_other, length-set}
 use Rattle.ra_memref.specs.Flags.{NoneSet, IsFirstSet}
 use Rattle.ra_memref.specs.Table.{TableSeen}
@@ -38,20 +40,31 @@ abbrev pub AreUnderWay : (Spot : Type 0) (Done : ℕ → Place Spot → Type 0) 
 AreUnderWay Spot Done start olds now news at = AreTaken (Place Spot) start.readers.due
     (place_of Spot start olds) Done (place_of Spot now news) at
 
--- a schedule while its places are stepped: as many places, the same readers and truths, and the same count of frames
+-- a schedule while its places are stepped: as many places, the same readers and truths, and the same count of frames;
+-- where no truth is known all are due
 pub record IsAlong (start now : ScheduleSeen) : Type 0 where
   pub due_many : length now.readers.due ≡ length start.readers.due
   pub since_many : length now.since ≡ length start.since
   pub rows : now.readers.rows ≡ start.readers.rows
   pub truths : now.truths ≡ start.truths
   pub clock : now.clock ≡ start.clock
+  pub awake : (k : ℕ) → is_due now k ≡ false → now.truths.known ≡ true
 
-pub along_begins : (start : ScheduleSeen) → IsAlong start start
-along_begins start = record { due_many = refl; since_many = refl; rows = refl; truths = refl; clock = refl }
+pub along_begins : (start : ScheduleSeen) → ((k : ℕ) → is_due start k ≡ false → start.truths.known ≡ true)
+    → IsAlong start start
+along_begins start awake = record {
+  due_many = refl;
+  since_many = refl;
+  rows = refl;
+  truths = refl;
+  clock = refl;
+  awake = awake;
+}
 
 pub along_on : (start now after : ScheduleSeen) (place : ℕ) (rests : Bool) → IsAlong start now
+    → place < length now.readers.due → (rests ≡ true → now.truths.known ≡ true)
     → after ≡ noted_at place rests now → IsAlong start after
-along_on start now after place rests along is = record {
+along_on start now after place rests along within known is = record {
   due_many = ap (λ (s : ScheduleSeen). length s.readers.due) is
       ∙ length-set now.readers.due place (not rests) ∙ along.due_many;
   since_many = ap (λ (s : ScheduleSeen). length s.since) is ∙ length-set now.since place
@@ -59,7 +72,27 @@ along_on start now after place rests along is = record {
   rows = ap (λ (s : ScheduleSeen). s.readers.rows) is ∙ along.rows;
   truths = ap (λ (s : ScheduleSeen). s.truths) is ∙ along.truths;
   clock = ap (λ (s : ScheduleSeen). s.clock) is ∙ along.clock;
+  awake = λ k quiet. ap (λ (s : ScheduleSeen). s.truths.known) is
+      ∙ still_known k (sym (ap (λ (s : ScheduleSeen). is_due s k) is) ∙ quiet);
 }
+  where
+    resting : (b : Bool) → not b ≡ false → b ≡ true
+    resting true e = refl
+    resting false e = (let bad : true ≡ false = e in absurd (cc))
+
+    still_known : (k : ℕ) → is_due (noted_at place rests now) k ≡ false → now.truths.known ≡ true
+    still_known k quiet = elim (cases_eq k place) [
+      | inl here ↦ known (resting rests
+          (sym (ap (λ j. slice_index_or (slice_set now.readers.due place (not rests)) j true) here
+          ∙ get_or-set_same now.readers.due place (not rests) true within) ∙ quiet))
+      | inr apart ↦ along.awake k (sym (get_or-set_other now.readers.due place k (not rests) true apart) ∙ quiet)
+    ]
+
+-- what rests where a step says so and truths are known
+pub both_true : (rests known : Bool) → (rests && known) ≡ true → (rests ≡ true) × (known ≡ true)
+both_true true true both = (refl, refl)
+both_true true false both = (let bad : false ≡ true = both in absurd (cc))
+both_true false known both = (let bad : false ≡ true = both in absurd (cc))
 
 -- what a place that was not due went on to rest by
 abbrev pub Quiet : TableSeen → (values : List ℕ) → ScheduleSeen → ℕ → Type 0
@@ -202,9 +235,9 @@ pub heard_after : (table : TableSeen) (values : List ℕ) (old start now : Sched
     → IsHeard table.nodes table.values now
 heard_after table values old start now heard begun same = subst (λ (t : TruthsSeen). IsHeard
     table.nodes table.values (record now { truths = t })) (sym same) (record {
-      nodes_too = heard.nodes_too ∙ sym begun.truths.nodes;
-      over = subst (AreOver table.nodes) (sym begun.truths.comparisons) heard.over;
-      truths = λ known. begun.truths.truths ∙ ap (truths_by table.values) (sym begun.truths.comparisons);
+      nodes_too = heard.nodes_too ∙ sym begun.nodes;
+      over = subst (AreOver table.nodes) (sym begun.comparisons) heard.over;
+      truths = λ known. (begun.truths known).truths ∙ ap (truths_by table.values) (sym begun.comparisons);
     })
 
 -- a frame may begin where the comparisons are over the nodes of the table, and it lists each that changed

@@ -84,26 +84,27 @@ not_at_end clock apart = by_test (clock == 18446744073709551615) refl
     by_test true e = absurd (apart (eqb-true clock 18446744073709551615 e))
     by_test false e = e
 
--- where a frame wakes all, none is quiet
-pub woken_all : (clock : ℕ) (signals : List ℕ) (old new : ReadersSeen) → new ≡ all_woken old
-    → IsWoken clock signals old new
-woken_all clock signals old new is = record {
-  rows = ap (λ (r : ReadersSeen). r.rows) is;
-  long = ap (λ (r : ReadersSeen). length r.due) is ∙ length-replicate (length old.due) true;
-  kept = λ r quiet. absurd (loud r quiet);
-  woken = λ r n quiet listed reads. loud r quiet;
-}
+-- where all are due, none is quiet
+pub all_loud : (old new : ReadersSeen) → new ≡ all_woken old → (r : ℕ) → slice_index_or new.due r true ≡ false → ⊥
+all_loud old new is r quiet =
+    let yes : slice_index_or new.due r true ≡ true =
+    ap (λ (rs : ReadersSeen). slice_index_or rs.due r true) is ∙ all_true (length old.due) r in
+    let bad : true ≡ false = sym yes ∙ quiet in cc
   where
     all_true : (n r : ℕ) → slice_index_or (replicate n true) r true ≡ true
     all_true zero r = refl
     all_true (suc n) zero = refl
     all_true (suc n) (suc r) = all_true n r
 
-    loud : (r : ℕ) → slice_index_or new.due r true ≡ false → ⊥
-    loud r quiet =
-        let yes : slice_index_or new.due r true ≡ true =
-        ap (λ (rs : ReadersSeen). slice_index_or rs.due r true) is ∙ all_true (length old.due) r in
-        let bad : true ≡ false = sym yes ∙ quiet in cc
+-- and so where a frame wakes all
+pub woken_all : (clock : ℕ) (signals : List ℕ) (old new : ReadersSeen) → new ≡ all_woken old
+    → IsWoken clock signals old new
+woken_all clock signals old new is = record {
+  rows = ap (λ (r : ReadersSeen). r.rows) is;
+  long = ap (λ (r : ReadersSeen). length r.due) is ∙ length-replicate (length old.due) true;
+  kept = λ r quiet. absurd (all_loud old new is r quiet);
+  woken = λ r n quiet listed reads. all_loud old new is r quiet;
+}
 
 -- where it wakes the readers of what changed, these are
 pub woken_some : (clock : ℕ) (signals : List ℕ) (old new : ReadersSeen)
@@ -131,18 +132,19 @@ module _ (table : TableSeen) (values : List ℕ) (old start : ScheduleSeen) (cha
         (λ differ. begun.woken.woken k n quiet
         (listed_front n table.changed behind (changed.each n below differ)) reads);
     truths = λ j within reads.
+        let taken = begun.truths (begun.awake k quiet) in
         let was = ap (λ ts. slice_index_or ts j false) (heard.truths known)
         ∙ truth_by values old.truths.comparisons j within in
-        let is = ap (λ ts. slice_index_or ts j false) begun.truths.truths
+        let is = ap (λ ts. slice_index_or ts j false) taken.truths
         ∙ truth_by table.values old.truths.comparisons j within in
-        let nodes : length table.nodes ≡ start.truths.nodes = heard.nodes_too ∙ sym begun.truths.nodes in
+        let nodes : length table.nodes ≡ start.truths.nodes = heard.nodes_too ∙ sym begun.nodes in
         same_unless_flipped (holds_by values (comparison_at old.truths.comparisons j))
         (holds_by table.values (comparison_at old.truths.comparisons j))
         (λ differ. begun.woken.woken k (length table.nodes + j) quiet
         (subst (λ n. IsListed (n + j) (table.changed ++ behind)) (sym nodes)
         (listed_back (start.truths.nodes + j) table.changed behind
         (listed_map (λ n. start.truths.nodes + n) j start.truths.flipped
-        (begun.truths.each j (λ same. differ (sym was ∙ same ∙ is)))))) reads);
+        (taken.each j (λ same. differ (sym was ∙ same ∙ is)))))) reads);
   }
     where
       behind : List ℕ

@@ -1,4 +1,4 @@
-use Rattle.std.proofs.Common.{◌<◌, length, map, get_or, refl, sym, subst, arith}
+use Rattle.std.proofs.Common.{◌<◌, ◌&&◌, length, map, get_or, refl, sym, subst, arith}
 use Rattle.std.proofs.lemmas.List.{get_or_default, length-map}
 use Rattle.ra_richpresence.specs.Contents.{LineContents, line_contents}
 use Rattle.ra_member.specs.MemberRuns.{kept_by}
@@ -7,6 +7,7 @@ use Rattle.ra_schedule.specs.declared.member_counts.MemberCounts.{MemberCounts}
 use Rattle.ra_schedule.specs.Counted.{CountsFit}
 use Rattle.ra_schedule.specs.Counts.{counts_of}
 use Rattle.ra_schedule.proofs.MembersRest.For.{counts_fit}
+use Rattle.ra_schedule.proofs.MembersRest.Frames.{both_true}
 use Rattle.ra_schedule.proofs.MembersRest.Turns.{element}
 use Rattle.ra_meaning.specs.LineMembers.{line_member}
 use Rattle.ra_display.specs.LineRests.{HasLineRoom}
@@ -71,6 +72,7 @@ returns c =
     let was = get_or runs place run in
     let had = c.index_mut-counts.result.now in
     let stepped = c.step_noted-stepped in
+    let known = c.args.self.now.schedule.truths.known in
     let within = c.requires.here in
     let within_runs : place < length runs =
     omega (arith, within, length_runs table.nodes contents runs c.requires.runs, length-map lines line_contents) in
@@ -78,14 +80,15 @@ returns c =
     omega (arith, within, c.requires.place.many, length-map lines line_contents) in
     let was_is = get_or_default runs place run was within_runs in
     stepped_at table lines place runs _ c.args.self.now _ line was stepped.new.run had stepped.new.counts
-    c.owed-owed.result stepped.result.rests stepped.result.holds within c.index-lines-place.is within_runs within_each
-    was_is c.index_mut-counts.ensures.value c.owed-owed.ensures refl refl c.note.ensures c.put.ensures
+    c.owed-owed.result (stepped.result.rests && known) stepped.result.holds within c.index-lines-place.is within_runs
+    within_each was_is c.index_mut-counts.ensures.value c.owed-owed.ensures refl refl c.note.ensures
+    (λ both. (both_true stepped.result.rests known both).1) c.put.ensures
     stepped.ensures.run stepped.ensures.room
     (record {
       mid = c.pay_owed.new.run;
       is = c.pay_owed.ensures.stays table.nodes (line_member (line_contents line)) (own_run
           table.nodes lines runs place line run within c.index-lines-place.is c.requires.runs);
       kept = c.pay_owed.ensures.kept;
-      rested = stepped.ensures.rests;
+      rested = λ both. stepped.ensures.rests (both_true stepped.result.rests known both).0;
       steps = stepped.ensures.steps;
     })

@@ -1,6 +1,7 @@
-use Rattle.std.proofs.Common.{◌<◌, ◌+◌, length, map, get_or, refl, sym, ◌∙◌, ap, subst, arith}
+use Rattle.std.proofs.Common.{◌<◌, ◌+◌, ◌&&◌, length, map, get_or, refl, sym, ◌∙◌, ap, subst, arith}
 use Rattle.std.proofs.lemmas.List.{get_or_default, length-map}
 use Rattle.ra_set.specs.Contents.{ItemContents, item_contents}
+use Rattle.ra_schedule.proofs.MembersRest.Frames.{both_true}
 use Rattle.ra_schedule.proofs.MembersRest.Turns.{element}
 use Rattle.ra_items.specs.declared.rest.ItemCounts.{ItemCounts}
 use Rattle.ra_items.specs.Resting.{FitsRun, HasRoom}
@@ -64,6 +65,7 @@ returns c =
     let run = c.index-runs-place.result in
     let was = get_or runs place run in
     let stepped = c.step_rest-rests in
+    let known = c.args.self.now.schedule.truths.known in
     let had = c.index_mut-counts.result.now in
     let within_runs : place < length runs =
     omega (
@@ -75,16 +77,17 @@ returns c =
     let within_each : place < length c.args.self.now.each.items =
     omega (arith, c.requires.here, c.requires.place.many, length-map items item_contents) in
     stepped_at table items place runs _ c.args.self.now _ item was stepped.new.run had
-    stepped.new.counts c.owed-owed.result stepped.result c.may_tell.result
+    stepped.new.counts c.owed-owed.result (stepped.result && known) c.may_tell.result
     c.requires.here c.index-items-place.is within_runs within_each (get_or_default runs place run
     was within_runs) c.index_mut-counts.ensures.value c.owed-owed.ensures
-    refl refl c.note.ensures refl (ap (λ n. c.args.self.now.count + n) (c.from.ensures
+    refl refl c.note.ensures (λ both. (both_true stepped.result known both).1) refl
+    (ap (λ n. c.args.self.now.count + n) (c.from.ensures
     ∙ counted c.may_tell.result)) c.may_tell.ensures stepped.ensures.run stepped.ensures.room
     (record {
       mid = c.pay_owed.new.run;
       is = c.pay_owed.ensures.run table.nodes (item_contents item) (own_run table.nodes items runs
           place item run c.requires.here c.index-items-place.is c.requires.runs);
       kept = c.pay_owed.ensures.kept;
-      rested = stepped.ensures.rests;
+      rested = λ both. stepped.ensures.rests (both_true stepped.result known both).0;
       steps = stepped.ensures.steps;
     })

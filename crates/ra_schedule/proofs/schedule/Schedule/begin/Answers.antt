@@ -17,8 +17,12 @@ returns c =
     let after : ScheduleSeen =
     record { readers = c.wake.new.readers; truths = c.take.new.self; since = s.since.items; clock = s.clock } in
     let signals = signals_at c.args.table.now c.take.new.self in
-    subst (λ (old : ScheduleSeen). Begins c.args.table.now old after) c.self.view_is (record {
-      truths = c.take.ensures;
+    subst (Begins c.args.table.now c.args.self.now) (sym c.note_many.ensures)
+    (subst (λ (old : ScheduleSeen). Begins c.args.table.now old after) c.self.view_is (record {
+      comparisons = c.take.ensures.comparisons;
+      nodes = c.take.ensures.nodes;
+      truths = λ known. c.take.ensures;
+      awake = λ k quiet. c.take.ensures.known;
       woken = elim c.if-many.branch [
         | then-many w ↦ woken_all s.clock signals s.readers c.wake.new.readers
             (c.wake.ensures.all (w.all-is ∙ w.if-many.true))
@@ -30,11 +34,11 @@ returns c =
               (c.wake.ensures.wakes (w.all-is ∙ not_at_end s.clock apart))
         ]
       ];
-      only = elim c.if-many.branch [
+      only = λ known. elim c.if-many.branch [
         | then-many w ↦ λ few small. absurd (omega (arith, few, ltb-true _ _ (sym w.if-many.ensures)))
         | else-many w ↦ λ few small r quiet due. (c.wake.ensures.wakes (w.all-is
             ∙ not_at_end s.clock (λ same. omega (arith, same, small)))).only r quiet due
       ];
       since = refl;
       clock = refl;
-    })
+    }))
