@@ -56,7 +56,9 @@ impl Rooms {
     }
 
     // Closes the room or opens it.
-    pub(crate) fn close(&mut self, closed: bool) {
+    pub(crate) fn close(&mut self, closed: bool)
+        ensures { self.new ≡ record self.old { closed = closed; member = record self.old.member { closed = closed } } }
+    {
         self.closed = closed;
         self.member.closed = closed;
     }

@@ -37,7 +37,7 @@ pub(crate) struct Few {
 /// what these read.
 #[derive(Drop)]
 pub struct Laid {
-    // the pass order, and behind it for each group how many of its conditions stand in pause chains
+    // the pass order, and after it for each group how many of its conditions stand in pause chains
     turns: Vec<u32>,
     // what each condition compares
     sides: Vec<Sides>,
@@ -196,7 +196,7 @@ fn fill_many(table: &Table, sides: &[Sides], room: &mut Many)
     read_conditions(table, sides, &mut room.lefts, &mut room.truths);
 }
 
-// The pass orders, and the counts of the conditions in pause chains behind them.
+// The pass orders, and after them the counts of the conditions in pause chains.
 fn turns_of(alloc: Global, order: &[u32], pauses: &[u32]) -> Result<Vec<u32>, OutOfMemory>
     ensures { IfOk result (λ turns. turns.items ≡ order.now ++ pauses.now) }
 {

@@ -203,19 +203,24 @@ pub record HasOwnRoom (table : TableSeen) (t u : LazyShape) : Type 0 where
   pub copy : IsCopy (length table.cells) (length table.priors) t.shape u.shape
   pub room : HasNameRoom (length table.cells) (length table.priors) u
 
-pub own_room : (table : TableSeen) (t u : LazyShape) (s : Shape) → MayName table t
-    → IsCopy (length table.cells) (length table.priors) t.shape s → u.shape ≡ s
-    → length table.cells ≤ u.orders → length table.priors ≤ u.orders
-    → (length table.cells ≤ 2 ^ 32 → length table.priors ≤ 2 ^ 32 → u.orders ≤ 2 ^ 32) → HasOwnRoom table t u
-own_room table t u s may copy same cells priors few = record {
-  copy = subst (IsCopy (length table.cells) (length table.priors) t.shape) (sym same) copy;
-  room = record {
-    rows = subst (HasRows (length table.cells) (length table.priors)) (sym same) copy.rows;
-    few_cells = cells;
-    few_priors = priors;
-    few = few (omega (arith, may.room.few_cells, may.room.few)) (omega (arith, may.room.few_priors, may.room.few));
-  };
-}
+pub own_room : (table : TableSeen) (t u : LazyShape) (s : Shape) (cells priors : List ℕ) → cells ≡ table.cells
+    → priors ≡ table.priors → MayName table t → IsCopy (length cells) (length priors) t.shape s → u.shape ≡ s
+    → length cells ≤ u.orders → length priors ≤ u.orders
+    → (length cells ≤ 2 ^ 32 → length priors ≤ 2 ^ 32 → u.orders ≤ 2 ^ 32) → HasOwnRoom table t u
+own_room table t u s cells priors same_cells same_priors may copy same few_cells few_priors few =
+    let many_cells = ap length same_cells in
+    let many_priors = ap length same_priors in
+    let own = rw (many_cells, many_priors) at copy in
+    record {
+      copy = subst (IsCopy (length table.cells) (length table.priors) t.shape) (sym same) own;
+      room = record {
+        rows = subst (HasRows (length table.cells) (length table.priors)) (sym same) own.rows;
+        few_cells = omega (arith, many_cells, few_cells);
+        few_priors = omega (arith, many_priors, few_priors);
+        few = few (omega (arith, many_cells, may.room.few_cells, may.room.few))
+            (omega (arith, many_priors, may.room.few_priors, may.room.few));
+      };
+    }
 
 pub lazy_copy : (table : TableSeen) (t u : LazyShape) → HasOwnRoom table t u → (whole : ShapeContents)
     → IsLazy whole t → NamesTable table whole → u.named ≡ false → IsLazy whole u

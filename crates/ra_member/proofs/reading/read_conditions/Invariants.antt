@@ -3,7 +3,7 @@ use Rattle.ra_member.specs.Laid.{left_nodes, right_nodes, operators}
 use Rattle.ra_member.specs.Readings.{numbers_at, truths_by}
 use Rattle.ra_member.proofs.reading.read_conditions.Given as goal
 
--- the conditions so far are read and compared; what is still to be compared comes behind
+-- the conditions so far are read and compared; what is still to be compared comes after them
 abbrev pub invariant-loop-place : goal.invariant-loop-place
 invariant-loop-place l = record {
   lefts : take l.place l.lefts ≡ numbers_at l.table.values (left_nodes (take l.place l.sides));
