@@ -39,10 +39,10 @@ row 'a frame with no write after each of those' 12 many.set due-still.trace many
 row 'a frame with no write after a restore' 100 many.set restored.trace many.set restores.trace
 row 'a frame of 4,000 achievements of 4 comparisons behind one pointer, which moves' 20 pointers.set pointers.trace pointers.set pointers-one.trace
 for what in '1 at each frame' '2 at each second frame' '3 at each third frame' '80 in 80 % of the items at each frame'; do
-    row "a frame of 4,000 achievements of 8 conditions of which each comes out otherwise ${what#* }" 24 flips.set "flips-${what%% *}.trace" \
+    row "a frame of 4,000 achievements of 8 conditions of which each comes out otherwise ${what#* }" 120 flips.set "flips-${what%% *}.trace" \
         flips.set "flips-${what%% *}-one.trace"
 done
-row 'a frame of them before which every byte takes a random value' 24 flips.set flips-random.trace flips.set flips-random-one.trace
+row 'a frame of them before which every byte takes a random value' 120 flips.set flips-random.trace flips.set flips-random-one.trace
 row 'a frame of 4,000 achievements of 8 conditions that look at one byte, which changes' 40 looks.set looked.trace looks.set looked-one.trace
 row 'such a frame after 40 with no write, so that all were at rest' 1 looks.set woken.trace looks.set rested.trace
 row 'a frame of a display of 4,000 lines of 8 conditions that look at one byte, which changes' 40 look-lines.set looked.trace look-lines.set looked-one.trace

@@ -200,7 +200,8 @@ class TraceDrawing:
     """Draws the records of a trace. Most frames have no write behind them or one; numbers come back to what they were.
 
     In some traces a byte counts the frames, or two, as a game's frame counter and its timer do, in some each frame has
-    many writes, and in some every byte, or four in five of them, is written before each frame, each second or each third one.
+    many writes, and in some every byte, or four in five of them, is written before each frame, each second or each third one,
+    up to a frame or to the end.
     """
 
     def __init__(self, r, places, pointers):
@@ -208,6 +209,7 @@ class TraceDrawing:
         self.counters = r.sample(places, r.choice([0, 0, 1, 2]))
         self.dense = r.random() < 0.2
         self.flood = r.choice([None] * 12 + [(1, 1), (2, 1), (3, 1), (1, 0.8)])
+        self.floods = r.choice([4, 9, 70, 10_000, 10_000])
         self.turn = 0
         self.places = places + pointers * 3
         self.image = bytearray(WRITTEN)
@@ -254,7 +256,7 @@ class TraceDrawing:
     def write_flood(self):
         self.turn += 1
         period, share = self.flood
-        if self.turn % period:
+        if self.turn > self.floods or self.turn % period:
             return
         if share == 1:
             self.write_all()

@@ -23,7 +23,7 @@ many.set     over saves.trace and restores.trace: 100 of these records; over sav
              over due.trace: 12 frames, each behind another value of every byte; due-one.trace has two of these frames,
              and in due-still.trace each has a frame with no write behind it
 flips.set    4,000 achievements of 8 conditions over 8 bytes of their own, half of which hold where a byte is 0 and half where it is 255
-             over flips-D.trace: 25 frames, at which by D change: each byte at each frame (1), each second (2), each third (3); 80 % of
+             over flips-D.trace: 121 frames, at which by D change: each byte at each frame (1), each second (2), each third (3); 80 % of
              the items' bytes at each frame (80); each byte takes a random value (random); flips-D-one.trace has one of these frames
 looks.set    4,000 achievements of 8 conditions that look at one byte, of which 7 count hits, and one of 40 other bytes
              over looked.trace: 41 frames, each behind another value of this byte; looked-one.trace has one of these frames
@@ -308,7 +308,7 @@ def main(folder, frames):
         "rested.trace": looked_trace(3, b"F" * 40),
     }
     for kind in ("1", "2", "3", "80", "random"):
-        files[f"flips-{kind}.trace"] = flip_trace(25, kind)
+        files[f"flips-{kind}.trace"] = flip_trace(121, kind)
         files[f"flips-{kind}-one.trace"] = flip_trace(1, kind)
     for count in (1, 4, 10, 40, 400):
         files |= due_sets(count)
