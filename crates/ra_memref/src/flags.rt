@@ -72,7 +72,8 @@ impl Flags {
         }
     }
 
-    /// Sets the flags from a place on and before another.
+    /// Sets the flags from a place on and before another: whole blocks at once, and the others one by one, so that no bit is
+    /// set whose flag is not.
     #[inline]
     pub fn set_between(&mut self, from: usize, to: usize)
         requires order { from ≤ to }
@@ -84,9 +85,37 @@ impl Flags {
         }
     }
 
-    // Does so for one flag or more.
+    // Does so, where there may be whole blocks.
     #[inline(never)]
     fn set_some(&mut self, from: usize, to: usize)
+        requires order { from ≤ to }
+        requires within { to ≤ length self.old }
+        ensures { SetsBetween from to self.old self.new }
+    {
+        let end = to / BLOCK * BLOCK;
+        let first = from.saturating_add(BLOCK - 1) / BLOCK * BLOCK;
+        if first >= end {
+            self.set_each(from, to);
+            return;
+        }
+        self.set_each(from, first);
+        self.set_whole(first, end);
+        self.set_each(end, to);
+    }
+
+    // Does so one by one.
+    fn set_each(&mut self, from: usize, to: usize)
+        requires order { from ≤ to }
+        requires within { to ≤ length self.old }
+        ensures { SetsBetween from to self.old self.new }
+    {
+        for place in from..to {
+            self.put(place, true);
+        }
+    }
+
+    // Does so at once, where a block begins at each of both places.
+    fn set_whole(&mut self, from: usize, to: usize)
         requires some { from < to }
         requires within { to ≤ length self.old }
         ensures { SetsBetween from to self.old self.new }

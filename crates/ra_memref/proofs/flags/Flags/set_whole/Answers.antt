@@ -1,6 +1,6 @@
 use Rattle.std.proofs.Common.{arith}
 use Rattle.ra_memref.proofs.FlagLemmas.{blocked_between}
-use Rattle.ra_memref.proofs.flags.Flags.set_some.Goals as goal
+use Rattle.ra_memref.proofs.flags.Flags.set_whole.Goals as goal
 
 pub invariant_of-self : goal.invariant_of-self
 invariant_of-self c =
