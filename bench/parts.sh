@@ -43,6 +43,7 @@ for what in '1 at each frame' '2 at each second frame' '3 at each third frame' '
         flips.set "flips-${what%% *}-one.trace"
 done
 row 'a frame of them before which every byte takes a random value' 120 flips.set flips-random.trace flips.set flips-random-one.trace
+row 'a frame with no write after one of 4,000 bytes, of 120 achievements over bytes far apart' 200 spread.set spread.trace spread.set spread-few.trace
 row 'a frame of 4,000 achievements of 8 conditions that look at one byte, which changes' 40 looks.set looked.trace looks.set looked-one.trace
 row 'such a frame after 40 with no write, so that all were at rest' 1 looks.set woken.trace looks.set rested.trace
 row 'a frame of a display of 4,000 lines of 8 conditions that look at one byte, which changes' 40 look-lines.set looked.trace look-lines.set looked-one.trace

@@ -25,6 +25,8 @@ many.set     over saves.trace and restores.trace: 100 of these records; over sav
 flips.set    4,000 achievements of 8 conditions over 8 bytes of their own, half of which hold where a byte is 0 and half where it is 255
              over flips-D.trace: 121 frames, at which by D change: each byte at each frame (1), each second (2), each third (3); 80 % of
              the items' bytes at each frame (80); each byte takes a random value (random); flips-D-one.trace has one of these frames
+spread.set   120 achievements of 3 conditions over a byte each, 512 bytes apart and in mixed order
+             over spread.trace: a write of 4,000 bytes, which eight of these bytes are among, and 220 frames; spread-few.trace has 20
 looks.set    4,000 achievements of 8 conditions that look at one byte, of which 7 count hits, and one of 40 other bytes
              over looked.trace: 41 frames, each behind another value of this byte; looked-one.trace has one of these frames
              over woken.trace: such a frame behind 40 frames with no write, three times, and one more; rested.trace ends before that
@@ -94,6 +96,18 @@ def flipping(number):
     """An achievement whose 8 comparisons come out otherwise where its bytes change between 0 and 255, and never unlocks."""
     pairs = [f"0xH{number * 16 + 2 * k:04x}{'<' if k % 2 else '>='}128" for k in range(8)]
     return f"A {number + 1} " + "_".join(pairs) + "\n"
+
+
+def spread(number):
+    """An achievement over a byte of its own, whose neighbours in the set lie far from it; it never unlocks."""
+    place = f"0xH{number * 37 % 120 * 512:04x}"
+    return f"A {number + 1} {place}=255.9._{place}<250.7._{place}=77.3.\n"
+
+
+def spread_trace(frames):
+    """Frames after a large write that few of the cells lie in."""
+    large = b"W" + (16).to_bytes(4, "little") + (4000).to_bytes(2, "little") + bytes(4000)
+    return header(65536) + b"F" * 20 + large + b"F" * frames + b"E"
 
 
 def flip_trace(frames, kind):
@@ -300,6 +314,9 @@ def main(folder, frames):
         "pointers.trace": pointer_trace(21),
         "pointers-one.trace": pointer_trace(1),
         "flips.set": "".join(flipping(i) for i in range(4000)).encode(),
+        "spread.set": "".join(spread(i) for i in range(120)).encode(),
+        "spread.trace": spread_trace(220),
+        "spread-few.trace": spread_trace(20),
         "looks.set": looks_set().encode(),
         "look-lines.set": look_lines_set().encode(),
         "looked.trace": looked_trace(41),
