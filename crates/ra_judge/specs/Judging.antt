@@ -1,5 +1,5 @@
 -- Whether a set with one item alone is accepted: docs/DEFINITIONS.md, "Calls from C".
-use Rattle.std.specs.Prelude.{◌≡◌, ◌⊎◌, ℕ, ◌+◌, ◌-◌, ◌<◌, ◌==◌, ◌||◌, if◌then◌else◌, Option, None, Some, List, [], ◌∷◌}
+use Rattle.std.specs.Prelude.{◌≡◌, ◌⊎◌, ℕ, ◌+◌, ◌-◌, ◌<◌, ◌≤◌, ◌==◌, ◌||◌, if◌then◌else◌, Option, None, Some, List, [], ◌∷◌}
 use Rattle.std.specs.Prelude.{◌++◌, length, codes}
 use Rattle.ra_set.specs.Accepted.{IsSet}
 use Rattle.ra_set.specs.Contents.{SetContents}
@@ -61,12 +61,14 @@ abbrev pub item_reason : Kind → List ℕ → SetRefused → Refusal
 item_reason kind text (Syntax at) = syntax_reason text (at - length (head_of kind))
 item_reason kind text why = set_reason (file_of kind text) why
 
--- the text is too long; or it ends its line; or the set file is refused
+-- the text is too long; or else it ends its line; or else the set file is refused
 abbrev pub IsRefused : Kind → List ℕ → Refusal → Type 0
 IsRefused kind text why =
     ((most_for kind < length text) × (why ≡ reason_of 3 0 0 (length text) (most_for kind)))
-    ⊎ (((at : ℕ) × (break_in kind text ≡ Some at) × (why ≡ syntax_reason text at))
-    ⊎ ((reason : SetRefused) × Refuses (file_of kind text) reason × (why ≡ item_reason kind text reason)))
+    ⊎ ((length text ≤ most_for kind)
+    × (((at : ℕ) × (break_in kind text ≡ Some at) × (why ≡ syntax_reason text at))
+    ⊎ ((break_in kind text ≡ None)
+    × ((reason : SetRefused) × Refuses (file_of kind text) reason × (why ≡ item_reason kind text reason)))))
 
 -- the item of a kind is accepted, where the number is one
 abbrev pub AcceptsKind : Option Kind → List ℕ → Type 0
