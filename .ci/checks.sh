@@ -74,7 +74,8 @@ for name in small forest; do
 done
 check examples/changed changed_set
 check "what edits guard" bench/edits.py --check
-if has "documents and words" python3; then
+if has "cases, documents and words" python3; then
+    check "cases of whole jobs" bench/cases.py "$player" "$author"
     check "links, paths and headings of documents" bench/links.py
     check "words of both programs" bench/words.py check "$player" "$author"
 fi
