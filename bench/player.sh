@@ -1,21 +1,36 @@
-# The built player, for the scripts of this folder, which read this file: the program that is named, else the one that
-# lies in crates/ra_player/out, else it is built first, with every proof below it.
+# What the scripts of this folder share, which read this file.
+
+# The built player, as $player: the program that is named, else the one that lies in crates/ra_player/out, else it is built first,
+# with every proof below it.
 find_player() {
-    here=$(cd "$(dirname "$0")/.." && pwd)
-    player=${1:-$here/crates/ra_player/out/ra_player}
-    if [ ! -x "$player" ]; then
-        echo "the player is proved and built first" >&2
-        (cd "$here/crates/ra_player" && rt run -- check ../../examples/small.set) >&2
-    fi
+    find_program ra_player "${1:-}" check ../../examples/small.set
 }
 
 # The same of the program for authors, as $player, for `instructions`.
 find_author() {
+    find_program ra_author "${1:-}" version
+}
+
+# find_program NAME NAMED WORDS..: the words are those of a first run of what is built. A program that is named and is not there ends
+# the script.
+find_program() {
+    name=$1 named=$2
+    shift 2
     here=$(cd "$(dirname "$0")/.." && pwd)
-    player=${1:-$here/crates/ra_author/out/ra_author}
-    if [ ! -x "$player" ]; then
-        echo "the program is proved and built first" >&2
-        (cd "$here/crates/ra_author" && rt run -- version) >&2
+    player=${named:-$here/crates/$name/out/$name}
+    if [ -f "$player" ] && [ -x "$player" ]; then
+        return
+    fi
+    need_named "$named"
+    echo "$name is proved and built first" >&2
+    (cd "$here/crates/$name" && rt run -- "$@") >&2
+}
+
+# Ends the script where a file is named that is not there.
+need_named() {
+    if [ -n "$1" ]; then
+        echo "there is no $1" >&2
+        exit 1
     fi
 }
 

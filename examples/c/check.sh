@@ -8,6 +8,10 @@ set -eu
 root=$(cd "$(dirname "$0")/../.." && pwd)
 sets=${1:-200}
 player=${2:-$root/crates/ra_player/out/ra_player}
+if [ $# -ge 2 ] && [ ! -x "$2" ]; then
+    echo "there is no $2" >&2
+    exit 1
+fi
 folder=$(mktemp -d)
 trap 'rm -rf "$folder"' EXIT
 cd "$root/examples/c"
