@@ -1,41 +1,57 @@
 #!/usr/bin/env bash
-# What no proof sees, over a built player: the status is how many of these checks failed.
-# usage: .ci/checks.sh PLAYER [ARCHIVE [AUTHOR]], where ARCHIVE is a folder with libra_c.a and libra_c.sum, as
-# examples/c/check.sh leaves them in crates/ra_c/out, and AUTHOR is the built program ra_author. Where the sum is that of the
-# files here, the C programs are linked and run.
+# What no proof sees, over the built programs. The status is how many of these checks failed; the last line counts and names those,
+# and the parts of some, that were skipped.
+# usage: .ci/checks.sh PLAYER [AUTHOR], where AUTHOR is the built program ra_author. The C programs run over the archive that
+# examples/c/archive.sh builds of the libraries that `rt ci` has left in crates/*/out.
 cd "$(dirname "$0")/.." || exit 1
 player=$(realpath "$1")
-archive=${2:-crates/ra_c/out}
-author=$(realpath "${3:-crates/ra_author/out/ra_author}")
+author=$(realpath "${2:-crates/ra_author/out/ra_author}")
+archive=crates/ra_c/out/libra_c.a
 room=$(mktemp -d) || exit 1
 trap 'rm -rf "$room"' EXIT
 failed=0
+skipped=()
 
-# Runs a check by its name and tells whether it passed; what it printed is shown where it did not.
+# check NAME COMMAND..: whether the command passes, with the last line that it prints, or, where it fails, the last twenty. Status 77
+# is that of a command that is skipped for what its last line says, and a line 'skipped PART: WHY' is a part that it leaves out.
 check() {
-    local name=$1
+    local name=$1 part why status
     shift
-    if "$@" >"$room/said" 2>&1; then
-        echo "$name: passed"
-        grep "^left out" "$room/said"
-    else
+    "$@" >"$room/said" 2>&1
+    status=$?
+    if [ "$status" -eq 77 ]; then
+        skip "$name" "$(tail -n 1 "$room/said")"
+    elif [ "$status" -ne 0 ]; then
         failed=$((failed + 1))
         echo "$name: FAILED"
         tail -n 20 "$room/said"
+    else
+        echo "$name: passed$(grep -v '^skipped ' "$room/said" | tail -n 1 | sed 's/^/: /')"
+        while IFS=': ' read -r part why; do
+            skip "$part" "$why"
+        done < <(sed -n 's/^skipped //p' "$room/said")
     fi
 }
 
-# Whether the tools are there; says so where one is missing.
+# skip NAME WHY: notes that something is not checked.
+skip() {
+    skipped+=("$1")
+    echo "$1: skipped, since $2"
+}
+
+# has NAME TOOL..: whether the tools are there; the check of that name is skipped where one is missing.
 has() {
     local name=$1 tool
     shift
     for tool in "$@"; do
         if ! command -v "$tool" >/dev/null; then
-            echo "$name: skipped, since $tool is missing"
+            skip "$name" "$tool is missing"
             return 1
         fi
     done
 }
+
+# -- the programs
 
 # The player prints what an example's .out has.
 prints() {
@@ -44,6 +60,7 @@ prints() {
     "$player" "$@" >"$room/out" && cmp "$room/out" "$out"
 }
 
+# A run goes on from the progress of another one over a set that was changed since.
 changed_set() {
     local at=examples/changed
     prints $at/first.out run $at/old.set $at/first.trace --save "$room/progress" &&
@@ -57,42 +74,70 @@ both_ways() {
         cmp "$room/again" "$1.trace"
 }
 
+check_programs() {
+    local name
+    for name in small forest; do
+        check "example-$name" prints examples/$name.out run examples/$name.set examples/$name.trace
+    done
+    check example-changed changed_set
+    has cases python3 && check cases bench/cases.py "$player" "$author"
+    for name in small forest changed/first changed/later; do
+        has "trace-${name//\//-}" python3 && check "trace-${name//\//-}" both_ways "examples/$name"
+    done
+    has rounds python3 && check rounds python3 bench/rests.py "$player" 300
+    has accounts python3 && check accounts python3 bench/why_rounds.py "$author" 100
+}
+
+# -- the documents and the edits
+
+check_documents() {
+    local name
+    for name in links claims; do
+        has $name python3 git && check $name bench/$name.py
+    done
+    has words python3 && check words bench/words.py check "$player" "$author"
+    has edits python3 && check edits bench/edits.py --check
+}
+
+# -- the C library
+
+# Header and programs compile without a warning, the header as C89 and as C++98.
 compiles() {
-    local compiler=$1 program
+    local warnings="-Wall -Wextra -Wpedantic -Werror -Icrates/ra_c/include -fsyntax-only" program
     local header='#include "meerkat.h"'
-    echo "$header" | "$compiler" -std=c89 -Wall -Wextra -Wpedantic -Werror -Icrates/ra_c/include -fsyntax-only -x c - || return 1
+    echo "$header" | cc -std=c89 $warnings -x c - || return 1
     if command -v c++ >/dev/null; then
-        echo "$header" | c++ -std=c++98 -Wall -Wextra -Wpedantic -Werror -Icrates/ra_c/include -fsyntax-only -x c++ - || return 1
+        echo "$header" | c++ -std=c++98 $warnings -x c++ - || return 1
+    else
+        echo "skipped c++-header: c++ is missing"
     fi
     for program in examples/c/*.c; do
-        "$compiler" -std=c11 -Wall -Wextra -Wpedantic -Werror -Icrates/ra_c/include -fsyntax-only "$program" || return 1
+        cc -std=c11 $warnings "$program" || return 1
     done
 }
 
-for name in small forest; do
-    check "examples/$name" prints examples/$name.out run examples/$name.set examples/$name.trace
-done
-check examples/changed changed_set
-check "what edits guard" bench/edits.py --check
-if has "cases, documents and words" python3; then
-    check "cases of whole jobs" bench/cases.py "$player" "$author"
-    check "links, paths and headings of documents" bench/links.py
-    check "words of both programs" bench/words.py check "$player" "$author"
-fi
-if has "examples/trace.py" python3; then
-    for name in small forest changed/first changed/later; do
-        check "examples/trace.py on $name" both_ways "examples/$name"
-    done
-    check "300 random rounds" python3 bench/rests.py "$player" 300
-    check "100 random accounts" python3 bench/why_rounds.py "$author" 100
-fi
-if has "C programs" cc; then
-    check "C programs: compiled" compiles cc
-    if [ -f "$archive/libra_c.a" ] && [ "$(cat "$archive/libra_c.sum")" = "$(examples/c/sum.sh)" ]; then
-        check "C programs: linked and run" examples/c/run.sh "$archive/libra_c.a"
+# No call of malloc, realloc or free in frames, and as many frees as allocations over a game's life.
+c_allocations() {
+    make -s -C examples/c OUT="$room/c" ARCHIVE="$PWD/$archive" "$room/c/allocations" && "$room/c/allocations"
+}
+
+check_c() {
+    has c-compiled cc && check c-compiled compiles
+    has c-programs cc make || return
+    check c-archive examples/c/archive.sh
+    if [ -f "$archive" ]; then
+        check c-programs examples/c/run.sh "$archive"
+        check c-allocations c_allocations
     else
-        echo "C programs: compiled, not run (no archive of these files: examples/c/check.sh makes it)"
+        skip c-programs "there is no archive"
+        skip c-allocations "there is no archive"
     fi
-fi
-check "examples/libretro" examples/libretro/check.sh "$player"
+}
+
+check_programs
+check_documents
+check_c
+check libretro examples/libretro/check.sh "$player"
+names=$(printf ', %s' "${skipped[@]}")
+echo "${#skipped[@]} skipped${skipped[0]:+: ${names#, }}"
 exit "$failed"

@@ -188,6 +188,9 @@ def completed(program, folder):
 
 def check(player, author):
     wrong = []
+    for tool in ("bash", "zsh", "fish", "groff"):
+        if not shutil.which(tool):
+            print(f"skipped words-{tool}: {tool} is missing")
     for name, built in (("ra_player", player), ("ra_author", author)):
         program = table()[name]
         said = ran(built, "no-such-job").strip()

@@ -1,7 +1,7 @@
 #!/bin/sh
 # Tries the recorder, and records the game again: the trace, the player's lines and rcheevos' lines have to be the committed ones.
 # usage: examples/libretro/check.sh [PLAYER], where PLAYER is the built program; where it is not named it is the one in crates/ra_player/out
-# What needs a package that is missing is left out, with a line that says so: libretro-nestopia, librcheevos-dev and cc65 of Debian. So is the
+# What needs a package that is missing is skipped, with a line that says so: libretro-nestopia, librcheevos-dev and cc65 of Debian. So is the
 # library itself, unless an archive of exactly these files lies in crates/ra_c/out, as examples/c/check.sh leaves it there.
 set -eu
 root=$(cd "$(dirname "$0")/../.." && pwd)
@@ -12,7 +12,8 @@ trap 'rm -rf "$folder"' EXIT
 cd "$root/examples/libretro"
 
 has() { command -v "$1" >/dev/null; }
-left_out() { echo "left out: $*"; }
+# skip PART WHY: tells that a part is not tried
+skip() { echo "skipped $1: $2"; }
 
 # The file, of the package, wherever the system has its libraries.
 library() {
@@ -48,8 +49,8 @@ build() {
 
 for tool in cc python3; do
     if ! has "$tool"; then
-        left_out "all, $tool is missing"
-        exit 0
+        echo "$tool is missing"
+        exit 77
     fi
 done
 flags="-O2 -Wall -Wextra -Wpedantic -Werror"
@@ -65,7 +66,7 @@ if cc -fsanitize=address,undefined "$folder/empty.c" -o "$folder/empty" 2>/dev/n
     cc -std=c89 $flags $safe writer_test.c -o "$folder/writer_test"
     cc -std=c99 $flags $safe frontend.c -o "$folder/frontend_safe" -ldl
 else
-    left_out "the sanitizers, which cc has not"
+    skip libretro-sanitizers "cc has no sanitizers"
     cp "$folder/frontend" "$folder/frontend_safe"
 fi
 
@@ -79,7 +80,7 @@ if has ca65 && has ld65; then
     ld65 -C game/nrom.cfg "$folder/lantern.o" -o "$folder/lantern.nes"
     same "the game, put together again" "$folder/lantern.nes" game/lantern.nes
 else
-    left_out "the game was not put together again, cc65 is missing"
+    skip libretro-game "cc65 is missing"
 fi
 
 core=$(library libretro/nestopia_libretro.so)
@@ -87,7 +88,7 @@ if [ -n "$core" ]; then
     ./record.sh "$core" game/lantern.nes lantern.txt "$folder/lantern.trace"
     same "the trace, recorded again" "$folder/lantern.trace" lantern.trace
 else
-    left_out "the game was not recorded again, libretro-nestopia is missing"
+    skip libretro-core "libretro-nestopia is missing"
 fi
 
 archive=$root/crates/ra_c/out/libra_c
@@ -105,7 +106,7 @@ if [ -f "$archive.a" ] && [ -f "$archive.sum" ] && [ "$(cat "$archive.sum")" = "
         same "how its items stand at the end" "$folder/items.txt" lantern.items
     fi
 else
-    left_out "the library beside the core, there is no archive of these files in crates/ra_c/out"
+    skip libretro-library "there is no archive of these files in crates/ra_c/out"
 fi
 
 if [ -x "$player" ]; then
@@ -114,7 +115,7 @@ if [ -x "$player" ]; then
     "$player" run differences.set lantern.trace >"$folder/differences.out"
     same "the player's lines for what rcheevos does otherwise" "$folder/differences.out" differences.out
 else
-    left_out "the player's lines, $player is not built"
+    skip libretro-player "$player is not built"
 fi
 
 if [ -n "$rcheevos" ]; then
@@ -139,5 +140,5 @@ if [ -n "$rcheevos" ]; then
         done
     fi
 else
-    left_out "rcheevos, librcheevos-dev is missing"
+    skip libretro-rcheevos "librcheevos-dev is missing"
 fi
