@@ -7,405 +7,87 @@ AUTHOR is the built program; where it is not named it is found in crates/ra_auth
 are not named, draws a trigger and a trace with writes, frames, saves, restores and some records that are refused. SEED, 1
 where it is not named, is that of the first round, and each further round takes the next one.
 
-The model keeps all images of the history and computes every frame anew, by docs/DEFINITIONS.md ("Evaluation", "Items", "Account
-of an achievement"); it shares nothing with the program. Status and text have to be the same. A round that differs is kept in a
-folder and told. The last line counts the rounds; the status is 1 where one differs."""
+The model (bench/model.py) computes every frame anew from the images of the history, by docs/DEFINITIONS.md ("Evaluation", "Items");
+the account of it is told here ("Account of an achievement"). It shares nothing with the program. Status and text have to be the
+same. A round that differs is kept in a folder and told. The last line counts the rounds; the status is 1 where one differs."""
 import os
 import random
 import subprocess
 import sys
 import tempfile
-from typing import NamedTuple, Optional
+from typing import NamedTuple
+
+from model import LOOKS, TRIGGERED, WAITING, WANTED, AchievementModel, KeptAchievement, Stepped, Values
+from model_files import Course, course_of
+from model_texts import HANDS_ON, WORD, ZERO, Achievement, Condition, Operand
 
 ROOT = os.path.dirname(os.path.dirname(os.path.abspath(__file__)))
-WORD = 2**32
-HANDS_ON = set("ABIK")
-COMBINES = set("ABCDIKNOZ")
-WANTED = {"", "M", "G", "Q", "T"}
-WIDTHS = {"X": 4, "G": 4, "W": 4, "J": 4, " ": 2, "I": 2}
-LOOKS = {"X": 4, "G": 4, "W": 3, "J": 3, " ": 2, "I": 2}
-BITS = {"X": 32, "G": 32, "W": 24, "J": 24, " ": 16, "I": 16, "H": 8, "K": 8, "L": 4, "U": 4}
 STATES = ("waiting", "active", "paused", "primed", "triggered")
 FRAMES = (0, 1, 2, 3, 5, 9, 20, 58, 59, 60, 61, 62, 100, 119, 120, 121, 150, 239, 240, 241)
 
 
-class Operand(NamedTuple):
-    """A constant, `{recall}`, or a memory operand: a prefix, a size and an address."""
-
-    kind: str
-    number: int = 0
-    prefix: str = ""
-    size: str = "H"
-
-    def text(self):
-        if self.kind == "constant":
-            return str(self.number)
-        if self.kind == "recall":
-            return "{recall}"
-        return f"{self.prefix}0x{self.size}{self.number:04x}"
+# ---- an achievement over a trace
 
 
-class Condition(NamedTuple):
-    flag: str
-    left: Operand
-    operator: str
-    right: Operand
-    target: int
+class Frame(NamedTuple):
+    """What a frame shows of a trigger, and whether it was waiting and is valid."""
 
-    def text(self):
-        flag = f"{self.flag}:" if self.flag else ""
-        joined = f"{self.operator}{self.right.text()}" if self.operator else ""
-        return f"{flag}{self.left.text()}{joined}" + (f".{self.target}." if self.target else "")
+    moment: int
+    stepped: Stepped
+    waited: bool
 
 
-# ---- the model: values
+class Watched:
+    """An achievement over the frames of a trace, up to its unlock or to where the trace ends or is refused."""
 
+    def __init__(self, course: Course, groups):
+        model = AchievementModel(Achievement(b"", 0, groups))
+        self.history, self.groups, self.values = course.history, model.trigger.groups, Values(course.history, {})
+        model.trigger.watch(self.values)
+        self.now, self.unlocks = 0, False
+        kept, frames = {0: model.first}, {}
+        for step, self.now in course.steps:
+            if step == "frame":
+                old = kept[self.history.before[self.now]]
+                stepped = model.trigger.step(self.now, old.hits)
+                kept[self.now] = model.after(old, stepped)
+                frames[self.now] = Frame(self.now, stepped, old.state == WAITING and stepped.valid)
+                self.unlocks = kept[self.now].state == TRIGGERED
+            if self.unlocks:
+                break
+        self.kept: KeptAchievement = kept[self.now]
+        self.frames = [frames[moment] for moment in self.history.back(self.now)]
 
-def mask_of(size):
-    if size in "MNOPQRST":
-        return 1 << "MNOPQRST".index(size)
-    return {"L": 15, "U": 240}.get(size, 2 ** BITS[size] - 1)
+    def is_live(self, frame, place, at):
+        """Whether a condition counts hits at a frame: it hands nothing on, and its group is not paused or it is in a pause chain."""
+        group = self.groups[place]
+        return at in group.holds and (not frame.stepped.shown[place].paused or group.pauses[at])
 
-
-def viewed(size, number):
-    """The view of a masked number."""
-    if size in "MNOPQRST":
-        return 1 if number & mask_of(size) else 0
-    number &= mask_of(size)
-    if size == "U":
-        return number >> 4
-    if size == "K":
-        return bin(number).count("1")
-    if size in "IJG":
-        return int.from_bytes(number.to_bytes(LOOKS[size], "little"), "big")
-    return number
-
-
-def of_kind(prefix, size, view):
-    if prefix == "b":
-        return sum((view >> 4 * at & 15) * 10**at for at in range(8))
-    if prefix == "~":
-        return view ^ (2 ** BITS.get(size, 1) - 1)
-    return view
-
-
-def joined(operator, left, right):
-    match operator:
-        case "+":
-            return (left + right) % WORD
-        case "-":
-            return (left - right) % WORD
-        case "*":
-            return left * right % WORD
-        case "/":
-            return left // right if right else 0
-        case "%":
-            return left % right if right else 0
-        case "&":
-            return left & right
-        case "^":
-            return left ^ right
-    raise ValueError(operator)
-
-
-def compared(operator, left, right):
-    return {"=": left == right, "!=": left != right, "<": left < right, "<=": left <= right, ">": left > right, ">=": left >= right}[operator]
-
-
-class Values:
-    """Trees and their values over a history: a list of images, the newest last. Trees are tuples."""
-
-    def __init__(self):
-        self.images, self.known = [], []
-
-    def frame(self, image):
-        self.images.append(bytes(image))
-        self.known.append({})
-
-    def cut(self, frames):
-        del self.images[frames:], self.known[frames:]
-
-    def raw(self, cell, at):
-        """The number of a cell at a frame; before the first it is 0."""
-        if at < 0:
-            return 0
-        _, pointer, address, width = cell
-        place = (address + self.of(pointer, at)) % WORD
-        return int.from_bytes(self.images[at][place : place + width], "little")
-
-    def prior(self, cell, size, at):
-        mask = mask_of(size)
-        for frame in range(at, -1, -1):
-            before = self.raw(cell, frame - 1) & mask
-            if self.raw(cell, frame) & mask != before:
-                return before
-        return 0
-
-    def of(self, tree, at):
-        known = self.known[at]
-        if tree not in known:
-            known[tree] = self.computed(tree, at)
-        return known[tree]
-
-    def computed(self, tree, at):
-        match tree:
-            case ("constant", number):
-                return number
-            case ("joined", operator, left, right):
-                return joined(operator, self.of(left, at), self.of(right, at))
-            case ("view", prefix, size, cell):
-                if prefix == "p":
-                    number = self.prior(cell, size, at)
-                else:
-                    number = self.raw(cell, at - 1 if prefix == "d" else at)
-                return of_kind(prefix, size, viewed(size, number))
-        raise ValueError(tree)
-
-
-# ---- the model: groups
-
-
-class Group:
-    """The conditions of a group, with their chains and trees."""
-
-    def __init__(self, conditions):
-        self.conditions = conditions
-        self.chain, self.previous = [], []
-        start, last = 0, None
-        for at, it in enumerate(conditions):
-            self.previous.append(last)
-            self.chain.append(start)
-            if it.flag not in HANDS_ON:
-                last = at
-            if it.flag not in COMBINES:
-                start, last = at + 1, None
-        ends = {start: at for at, start in enumerate(self.chain)}
-        self.pauses = [conditions[ends[start]].flag == "P" for start in self.chain]
-        order = [at for at in range(len(conditions)) if self.pauses[at]] + [at for at in range(len(conditions)) if not self.pauses[at]]
-        self.trees = {}
-        remembered = ("constant", 0)
-        for at in order:
-            self.trees[at] = self.sides(at, remembered)
-            if conditions[at].flag == "K":
-                remembered = self.value(at)
-
-    def operand(self, at, operand, recalled):
-        if operand.kind == "constant":
-            return ("constant", operand.number)
-        if operand.kind == "recall":
-            return recalled
-        before = at - 1
-        pointer = self.value(before) if at and self.conditions[before].flag == "I" else ("constant", 0)
-        return ("view", operand.prefix, operand.size, ("cell", pointer, operand.number, WIDTHS.get(operand.size, 1)))
-
-    def sides(self, at, recalled):
-        it = self.conditions[at]
-        return self.operand(at, it.left, recalled), self.operand(at, it.right, recalled)
-
-    def own(self, at):
-        """The left operand, or both operands joined by the condition's arithmetic."""
-        it, (left, right) = self.conditions[at], self.trees[at]
-        return ("joined", it.operator, left, right) if it.operator else left
-
-    def value(self, at):
-        value = self.own(at)
-        total = self.sum(at) if self.conditions[at].flag == "K" else None
-        return ("joined", "+", total, value) if total else value
-
-    def sum(self, at):
-        first = at
-        while first and self.conditions[first - 1].flag in set("ABI"):
-            first -= 1
-        total = None
-        for place in range(first, at):
-            flag = self.conditions[place].flag
-            if flag == "A":
-                total = ("joined", "+", total, self.value(place)) if total else self.value(place)
-            elif flag == "B":
-                total = ("joined", "-", total or ("constant", 0), self.value(place))
-        return total
-
-    def left(self, at):
-        total, left = self.sum(at), self.trees[at][0]
-        return ("joined", "+", total, left) if total else left
-
-    def is_past(self, at, values, frame, size):
+    def is_past(self, frame, place, at):
         """Whether an operand of a condition is past memory at a frame."""
-        it, before = self.conditions[at], at - 1
-        pointer = values.of(self.value(before), frame) if at and self.conditions[before].flag == "I" else 0
+        group, size = self.groups[place], len(self.history.images[frame.moment])
+        pointer = self.values.of(group.pointer(at))[frame.moment]
+        it = group.conditions[at]
         return any(
             operand.kind == "memory" and (operand.number + pointer) % WORD + LOOKS.get(operand.size, 1) > size
             for operand in (it.left, it.right)
         )
 
-    def step(self, values, frame, size, hits):
-        """What a frame shows of the group, with these hits before it."""
-        rows = []
-        for at, it in enumerate(self.conditions):
-            rows.append(self.row(at, it, rows, values, frame, size, hits[at]))
-        paused = any(row.valid for row, it in zip(rows, self.conditions) if it.flag == "P")
-        reset = not paused and any(row.valid for row, it in zip(rows, self.conditions) if it.flag == "R")
-        good = [row.valid for row, it in zip(rows, self.conditions) if it.flag in WANTED]
-        primed = [row.valid for row, it in zip(rows, self.conditions) if it.flag in WANTED - {"T"}]
-        measuring = [(row, it) for row, it in zip(rows, self.conditions) if it.flag in set("MG")]
-        measured = None
-        if measuring and not paused:
-            measured = max(min(row.total, it.target) if it.target else row.left for row, it in measuring)
-            if not all(row.valid for row, it in zip(rows, self.conditions) if it.flag == "Q"):
-                measured = 0
-        live = [it.flag not in HANDS_ON and (not paused or self.pauses[at]) for at, it in enumerate(self.conditions)]
-        wants = [
-            (it.flag in WANTED and (paused or not row.valid)) or (paused and it.flag == "P" and row.valid)
-            for row, it in zip(rows, self.conditions)
+    def wants(self, frame, place, at):
+        shown = frame.stepped.shown[place]
+        flag, row = self.groups[place].conditions[at].flag, shown.rows[at]
+        return (flag in WANTED and (shown.paused or not row.valid)) or (shown.paused and flag == "P" and row.valid)
+
+    def wanted(self, frame):
+        """The places that a frame wants: those of the core, and of the first alt that has the fewest."""
+        places = [
+            [f"{place}.{at}" for at in range(group.size) if self.wants(frame, place, at)]
+            for place, group in enumerate(self.groups)
         ]
-        after = [row.hit if alive else before for row, alive, before in zip(rows, live, hits)]
-        counted = any(it.target for _, it in measuring)
-        fits = not paused and not reset
-        return Shown(rows, paused, reset, fits and all(good), fits and all(primed), measured, counted, live, wants, after)
-
-    def row(self, at, it, rows, values, frame, size, before):
-        past = self.is_past(at, values, frame, size)
-        if it.flag in HANDS_ON:
-            return Row(False, False, before, 0, 0, False, 0, 0, past)
-        left, right = values.of(self.left(at), frame), values.of(self.trees[at][1], frame)
-        met, reset, add = compared(it.operator, left, right), False, 0
-        if self.previous[at] is not None:
-            flag, previous = self.conditions[self.previous[at]].flag, rows[self.previous[at]]
-            met = {"N": previous.valid and met, "O": previous.valid or met}.get(flag, met)
-            reset = {"Z": previous.valid, "N": previous.reset, "O": previous.reset}.get(flag, False)
-            add = previous.add + {"C": previous.hit, "D": -previous.hit}.get(flag, 0)
-        grows = met and (not it.target or before < it.target)
-        hit = 0 if reset else min(before + 1, WORD - 1) if grows else before
-        alone = not reset and (hit >= it.target if it.target else met)
-        total = max(0, min(hit + add, WORD - 1))
-        reached = bool(it.target) and total >= it.target
-        valid = alone if it.flag in set("CDNOZ") or not it.target else reached
-        return Row(met, reset, hit, add, total, valid, left, right, past)
+        return places[0] + (min(places[1:], key=len) if places[1:] else [])
 
 
-class Row(NamedTuple):
-    """What a frame shows of a condition."""
-
-    met: bool
-    reset: bool
-    hit: int
-    add: int
-    total: int
-    valid: bool
-    left: int
-    right: int
-    past: bool
-
-
-class Shown(NamedTuple):
-    """What a frame shows of a group."""
-
-    rows: list
-    paused: bool
-    reset: bool
-    valid: bool
-    primed: bool
-    measured: Optional[int]
-    counted: bool
-    live: list
-    wants: list
-    after: list
-
-
-class Frame(NamedTuple):
-    """What a frame shows of a trigger."""
-
-    groups: list
-    reset: bool
-    paused: bool
-    waited: bool
-
-
-class Kept(NamedTuple):
-    state: int
-    measured: int
-    hits: list
-
-
-# ---- the model: an achievement over a trace
-
-
-class Achievement:
-    def __init__(self, groups):
-        self.groups = [Group(it) for it in groups]
-        self.values = Values()
-        self.frames = []
-        self.kept = [Kept(0, 0, [[0] * len(it) for it in groups])]
-
-    def cut(self, frames):
-        self.values.cut(frames)
-        del self.frames[frames:], self.kept[frames + 1 :]
-
-    def frame(self, image):
-        """Takes a frame, and answers whether it unlocks."""
-        self.values.frame(image)
-        at, old = len(self.frames), self.kept[-1]
-        shown = [group.step(self.values, at, len(image), hits) for group, hits in zip(self.groups, old.hits)]
-        core, alts = shown[0], shown[1:]
-        reset = any(it.reset for it in shown)
-        valid = not reset and core.valid and (not alts or any(it.valid for it in alts))
-        paused = core.paused or (bool(alts) and all(it.paused for it in alts))
-        primed = (
-            not reset
-            and any(it.flag == "T" for group in self.groups for it in group.conditions)
-            and core.primed
-            and (not alts or any(it.primed for it in alts))
-        )
-        numbers = [it.measured for it in shown if it.measured is not None]
-        measured = max(numbers) if numbers else old.measured
-        clears = reset or (old.state == 0 and valid)
-        if reset:
-            state = 2 if paused else 1
-        elif valid:
-            state = 0 if old.state == 0 else 4
-        else:
-            state = 2 if paused else 3 if primed else 1
-        hits = [[0] * len(it.after) if clears else it.after for it in shown]
-        if clears and any(it.counted for it in shown):
-            measured = 0
-        self.frames.append(Frame(shown, reset, paused, old.state == 0 and valid))
-        self.kept.append(Kept(state, measured, hits))
-        return state == 4
-
-
-def played(groups, size, records):
-    """The achievement after the records, and why the trace stops, where it does before its end."""
-    achievement, image, slots, place = Achievement(groups), bytearray(size), {}, 9
-    # (a slot keeps the whole history, as it may be cut and grow again)
-    for record in records:
-        match record[:1]:
-            case b"W":
-                at, count = int.from_bytes(record[1:5], "little"), int.from_bytes(record[5:7], "little")
-                if at + count > size:
-                    return achievement, f"trace refused at {place}: memory\n"
-                image[at : at + count] = record[7:]
-            case b"F":
-                if achievement.frame(image):
-                    return achievement, None
-            case b"S":
-                slots[record[1]] = list(achievement.values.images)
-            case b"R":
-                if record[1] not in slots:
-                    return achievement, f"trace refused at {place}: empty\n"
-                achievement.cut(0)
-                for earlier in slots[record[1]]:
-                    achievement.frame(earlier)
-            case b"E":
-                return achievement, None
-            case b"P":
-                pass
-            case _:
-                return achievement, f"trace refused at {place}: kind\n"
-        place += len(record)
-    return achievement, f"trace refused at {place}: cut\n"
-
-
-# ---- the model: the text
+# ---- the text
 
 
 def times(word, marks):
@@ -418,60 +100,62 @@ def timeline(marks, width):
     return "".join("#" if all(it) else "+" if any(it) else "." for it in columns)
 
 
-def condition_lines(it, rows, live, hits, width):
-    lines = []
-    if it.flag not in HANDS_ON:
-        counts = [alive and row.met and not row.reset for row, alive in zip(rows, live)]
-        line = f" {times('counts', counts)} hits {hits}"
-        if it.target:
-            best = max((row.total for row, alive in zip(rows, live) if alive), default=0)
-            at = next((at for at, row in enumerate(rows) if live[at] and row.total == best), None) if best else None
-            line += f" of {it.target} best {best} at {'none' if at is None else at}"
-        lines.append(line)
-        if not any(counts) and rows:
-            sides = [[row.left for row in rows], [row.right for row in rows]]
-            (a, b), (c, d) = [(min(side), max(side)) for side in sides]
-            lines.append(f" left {a} to {b} right {c} to {d}")
-        if any(counts) and not all(counts):
-            lines.append(" " + timeline(counts, width))
-    past = [row.past for row in rows]
-    if any(past):
-        lines.append(" " + times("past memory", past))
+def counting_lines(watched, place, at, width):
+    """The lines of a condition that hands nothing on."""
+    group, frames = watched.groups[place], watched.frames
+    it = group.conditions[at]
+    rows = [frame.stepped.shown[place].rows[at] for frame in frames]
+    live = [watched.is_live(frame, place, at) for frame in frames]
+    counts = [alive and row.met and not row.reset for row, alive in zip(rows, live)]
+    line = f" {times('counts', counts)} hits {watched.kept.hits[place][at]}"
+    if it.target:
+        best = max((row.total for row, alive in zip(rows, live) if alive), default=0)
+        first = next((at for at, row in enumerate(rows) if live[at] and row.total == best), None) if best else None
+        line += f" of {it.target} best {best} at {'none' if first is None else first}"
+    lines = [line]
+    if not any(counts) and rows:
+        sides = [[column[frame.moment] for frame in frames] for column in (group.lefts[at], group.rights[at])]
+        (a, b), (c, d) = [(min(side), max(side)) for side in sides]
+        lines.append(f" left {a} to {b} right {c} to {d}")
+    if any(counts) and not all(counts):
+        lines.append(" " + timeline(counts, width))
     return lines
 
 
-def wanted(frame):
-    """The places that a frame wants: those of the core, and of the first alt that has the fewest."""
-    places = [[f"{g}.{j}" for j, it in enumerate(group.wants) if it] for g, group in enumerate(frame.groups)]
-    return places[0] + (min(places[1:], key=len) if places[1:] else [])
+def condition_lines(watched, place, at, width):
+    it = watched.groups[place].conditions[at]
+    lines = [f"{place}.{at} {it.text()}"]
+    if it.flag not in HANDS_ON:
+        lines += counting_lines(watched, place, at, width)
+    past = [watched.is_past(frame, place, at) for frame in watched.frames]
+    return lines + [" " + times("past memory", past)] * any(past)
 
 
-def nearest_line(frames):
+def nearest_line(watched):
+    frames = watched.frames
     if not frames:
         return "nearest none"
-    calm = [at for at, it in enumerate(frames) if not it.reset] or list(range(len(frames)))
-    fewest = min(len(wanted(frames[at])) for at in calm)
-    at = max(at for at in calm if len(wanted(frames[at])) == fewest)
-    return f"nearest {at} wants {' '.join(wanted(frames[at])) or 'nothing'}" + (" reset" if frames[at].reset else "")
+    calm = [at for at, it in enumerate(frames) if not it.stepped.reset] or list(range(len(frames)))
+    fewest = min(len(watched.wanted(frames[at])) for at in calm)
+    at = max(at for at in calm if len(watched.wanted(frames[at])) == fewest)
+    wanted = " ".join(watched.wanted(frames[at])) or "nothing"
+    return f"nearest {at} wants {wanted}" + (" reset" if frames[at].stepped.reset else "")
 
 
-def account(achievement, number):
-    frames, kept = achievement.frames, achievement.kept[-1]
+def account(watched, number):
+    frames, kept = watched.frames, watched.kept
     width = 1
     while 60 * width < len(frames):
         width *= 2
-    lines = [f"unlock {len(frames) - 1} {number}" if kept.state == 4 else f"no unlock {number}"]
+    lines = [f"unlock {len(frames) - 1} {number}" if kept.state == TRIGGERED else f"no unlock {number}"]
     lines.append(f"frames {len(frames)} state {STATES[kept.state]} measured {kept.measured}" + (f" column {width}" if width > 1 else ""))
-    for g, group in enumerate(achievement.groups):
-        for j, it in enumerate(group.conditions):
-            rows = [frame.groups[g].rows[j] for frame in frames]
-            live = [frame.groups[g].live[j] for frame in frames]
-            lines.append(f"{g}.{j} {it.text()}")
-            lines += condition_lines(it, rows, live, kept.hits[g][j], width)
-    lines.append(times("resets", [it.reset for it in frames]))
-    lines.append(times("paused", [it.paused for it in frames]))
+    for place, group in enumerate(watched.groups):
+        for at in range(group.size):
+            lines += condition_lines(watched, place, at, width)
+    lines.append(times("resets", [it.stepped.reset for it in frames]))
+    lines.append(times("paused", [it.stepped.paused for it in frames]))
     lines.append(times("waited", [it.waited for it in frames]))
-    lines.append(nearest_line(frames))
+    lines.append(nearest_line(watched))
     return "".join(line + "\n" for line in lines)
 
 
@@ -502,7 +186,7 @@ class Drawing:
         left = self.operand()
         if flag in HANDS_ON:
             if r.randrange(2):
-                return Condition(flag, left, "", Operand("constant", 0), 0)
+                return Condition(flag, left, "", ZERO, 0)
             return Condition(flag, left, r.choice("*/&^%+-"), self.operand(), 0)
         operator = r.choice(["=", "=", "=", "!=", "<", "<=", ">", ">="])
         right = self.operand() if r.randrange(3) == 0 else Operand("constant", r.choice([0, 1, 1, 2, 3]))
@@ -558,15 +242,17 @@ def one_round(author, folder, seed):
     if seed % 50 == 0:
         expected = (12, f"why refused: no achievement {number + 1}\n")
         return ran(author, folder, set_text, trace, number + 1) == expected, True, False
-    achievement, refused = played(groups, drawing.size, records)
-    expected = (7, refused) if refused else (0, account(achievement, number))
+    course = course_of(drawing.size, records)
+    watched = Watched(course, groups)
+    refused = None if watched.unlocks else course.refusal
+    expected = (7, refused) if refused else (0, account(watched, number))
     found = ran(author, folder, set_text, trace, number)
     if found != expected:
         with open(f"{folder}/expected", "w", encoding="utf-8") as out:
             out.write(f"{expected[0]}\n{expected[1]}")
         with open(f"{folder}/found", "w", encoding="utf-8") as out:
             out.write(f"{found[0]}\n{found[1]}")
-    return found == expected, bool(refused), achievement.kept[-1].state == 4
+    return found == expected, bool(refused), watched.unlocks
 
 
 def main(words):
