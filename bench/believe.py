@@ -1,0 +1,230 @@
+#!/usr/bin/env python3
+"""What one has to believe for a clause: every definition that its meaning rests on, and no other.
+
+usage: bench/believe.py CLAUSE [--run] [--views] [--counts | --names]
+       bench/believe.py --meaning [--check]
+CLAUSE is a public function and its clause, as "play answers", "meerkat_frame played", "ra_author::author ends" or
+"Runtime::frame events", or a function alone, as a law, for all its clauses; in one word or two.
+
+It prints the definitions in the order to read, each after those that it names, with their comments and the heading of
+docs/DEFINITIONS.md that their file names; then how many definitions, lines and crates these are, which names of the
+kit's specifications they use, and what the kit trusts. --counts prints the counts alone, --names the names alone. A line
+counts where it is neither blank nor a comment. --meaning writes docs/MEANING.md, what `play answers --run` rests on, a
+chapter a concept, by bench/meaning.txt; with --check it only compares the page.
+
+What is named is found by the `use` lines of each file and the binders of each term (bench/antt.py), and by the `use`
+lines of .rt files for the types in them (bench/contracts.py); the status is 1 at a name that stands for nothing. With a
+clause come the `requires` of its function. Of a struct with a model a clause sees the value, so its fields count only
+where a definition takes it apart, and its `view` only with --views. A type parameter stands for what its bounds say: of
+a trait all ghost members and clauses.
+
+--run leaves out the other jobs of the player. A constructor of theirs is each of `Job` but `Run`, and each of `Ending`
+that `run` has not (CUT below). Left out is such a constructor; a case with one on its left side; a definition with one
+elsewhere in what is left of it; and whatever only these name."""
+import argparse
+import os
+import sys
+
+import antt
+from library import ROOT, Library, Shown, claims
+
+PAGE = f"{ROOT}/docs/MEANING.md"
+CHAPTERS = f"{ROOT}/bench/meaning.txt"
+HEADLINE = "play answers"
+JOB, ENDING = "ra_args/specs/Words.antt Job", "ra_session/src/ending.rt Ending"
+CUT = {antt.Target(JOB, name) for name in "Check Make Import Lint Normal Explain".split()}
+CUT |= {antt.Target(ENDING, name) for name in "BadDocument LongNormal NoAchievement ManyRows".split()}
+TRUSTED = """what the kit trusts, by the last line of `rt check` (START-HERE.md and rattle/REPOSITORY.md of the kit):
+  native=nat,char,string     the numbers, characters and texts of antt are computed natively, by GMP
+  logic-built=trusted        the logic in which statements are made was checked when the kit was built
+  libraries-built=trusted    so were std and the kit's crates
+  statements=trusted         what a clause states of the code is written by the toolchain
+  sum=dac8208d650f15bf       the logic of rattle-kit-13f; without the words axioms= and foreign= no axiom and no C function"""
+
+
+def without_other_jobs(shown):
+    """What --run leaves of a definition, or none."""
+    parts = [part for part in shown.parts if antt.Target(shown.key, part.constructor) not in CUT and not CUT.intersection(part.left)]
+    if any(CUT.intersection(part.targets) for part in parts):
+        return None
+    return Shown(shown.key, shown.line, shown.comment, shown.around, parts)
+
+
+def reached(library, claim, cut, views):
+    """The definitions that a clause rests on, by key, and the names of the kit that they use."""
+    found, kit, todo = {claim.key: claim.shown()}, set(), [claim.key]
+    while todo:
+        for key, _ in found[todo.pop()].targets():
+            if key.startswith("kit "):
+                kit.add(key[4:])
+                continue
+            for each in [key, f"{key} view"] if views and library.has_view(key) else [key]:
+                if each not in found:
+                    shown = library.shown(each)
+                    found[each] = without_other_jobs(shown) if cut else shown
+                    todo += [each] if found[each] else []
+    return {key: shown for key, shown in found.items() if shown}, kit
+
+
+def in_order(library, found):
+    """The definitions in the order to read: each after those that it names, file by file where that can be."""
+    waits = {key: {it for it, _ in shown.targets() if it in found and it != key} for key, shown in found.items()}
+    rank = {key: (library.depth(shown.crate()), shown.path, shown.line) for key, shown in found.items()}
+    path, order = None, []
+    while waits:
+        ready = [key for key in waits if not waits[key] & waits.keys()] or list(waits)
+        key = min(ready, key=lambda it: (found[it].path != path, rank[it]))
+        path = found[key].path
+        order.append(found[key])
+        del waits[key]
+    return order
+
+
+def print_definitions(library, order):
+    path = None
+    for shown in order:
+        if shown.path != path:
+            path = shown.path
+            heading = library.heading(shown)
+            print("=" * 100 + f"\ncrates/{path}" + (": " + ", ".join(f'"{it}"' for it in heading) if heading else ""))
+        print("\n" + "\n".join(shown.comment + shown.text()))
+
+
+def print_counts(order, kit):
+    crates = sorted({shown.crate() for shown in order})
+    print(f"definitions {len(order)} lines {sum(shown.count() for shown in order)} crates {len(crates)}")
+    for crate in crates:
+        here = [shown for shown in order if shown.crate() == crate]
+        print(f"  {crate:<18}{len(here):>4}{sum(shown.count() for shown in here):>6}")
+    print(f"names of the kit {len(kit)}")
+    modules = {}
+    for name in kit:
+        module, _, word = name.rpartition(".")
+        modules.setdefault(module, []).append(word)
+    for module, words in sorted(modules.items()):
+        print(f"  {module}: {' '.join(sorted(words))}")
+    print(TRUSTED)
+
+
+class Chapter:
+    """A chapter of the page: its title, its introduction, and the files and folders whose definitions it has."""
+
+    def __init__(self, title):
+        self.title, self.words, self.places = title, [], []
+
+    def has(self, path):
+        """How closely the chapter names a path: 0 where it does not."""
+        return max((len(place) for place in self.places if f"{path}/".startswith(f"{place}/")), default=0)
+
+
+def chapters():
+    """The chapters by bench/meaning.txt; what stands before the first is the head of the page."""
+    found = [Chapter("")]
+    with open(CHAPTERS, encoding="utf-8") as lines:
+        for line in map(str.rstrip, lines):
+            if line.startswith("## "):
+                found.append(Chapter(line[3:]))
+            elif line.startswith("files: "):
+                found[-1].places += line[7:].split()
+            else:
+                found[-1].words.append(line)
+    return found[0], found[1:]
+
+
+def by_chapter(order, all_chapters):
+    """The definitions of each chapter; the status is 1 where a file is in none."""
+    found = {chapter.title: [] for chapter in all_chapters}
+    for shown in order:
+        chapter = max(all_chapters, key=lambda it: it.has(shown.path))
+        if not chapter.has(shown.path):
+            raise antt.Unplaced(f"bench/meaning.txt: no chapter has {shown.path}")
+        found[chapter.title].append(shown)
+    return found
+
+
+def page(library):
+    """The text of docs/MEANING.md."""
+    found, kit = reached(library, the_claim(library, HEADLINE), True, False)
+    order = in_order(library, found)
+    head, all_chapters = chapters()
+    parts = ["\n".join(head.words).format(
+        definitions=len(order), lines=sum(it.count() for it in order), crates=len({it.crate() for it in order}), kit=len(kit)
+    ).strip()]
+    for chapter in all_chapters:
+        parts += [f"## {chapter.title}", "\n".join(chapter.words).strip()]
+        parts += section(library, by_chapter(order, all_chapters)[chapter.title])
+    return "\n\n".join(parts) + "\n"
+
+
+def section(library, order):
+    """The definitions of a chapter, a block for each run of one file."""
+    path = None
+    for shown in order + [None]:
+        if path and (shown is None or shown.path != path):
+            yield f"```{'antt' if path.endswith('.antt') else 'rust'}\n" + "\n\n".join(block) + "\n```"
+        if shown and shown.path != path:
+            path, block = shown.path, []
+            heading = [f"[{it}](DEFINITIONS.md#{anchor(it)})" for it in library.heading(shown)]
+            yield f"`{path}`" + (": " + ", ".join(heading) if heading else "")
+        if shown:
+            block.append("\n".join(shown.comment + shown.text()))
+
+
+def anchor(heading):
+    return "".join(it for it in heading.lower() if it.isalnum() or it in "-_ ").replace(" ", "-")
+
+
+def the_claim(library, words):
+    """The one clause that the words name."""
+    found = list(claims(library, words.split()))
+    if len(found) != 1:
+        names = "".join(f"\n  {claim.key}" for claim in found)
+        raise antt.Unplaced(f"{words}: {'several are so named' if found else 'no public function has such a clause'}{names}")
+    return found[0]
+
+
+def write_page(library, only_compare):
+    text = page(library)
+    if only_compare:
+        with open(PAGE, encoding="utf-8") as it:
+            same = it.read() == text
+        print("docs/MEANING.md is what the definitions say" if same else "docs/MEANING.md is not: bench/believe.py --meaning writes it")
+        return 0 if same else 1
+    with open(PAGE, "w", encoding="utf-8") as it:
+        it.write(text)
+    return 0
+
+
+def read_words():
+    words = argparse.ArgumentParser(usage=__doc__[__doc__.index("usage: ") + 7 :], add_help=False)
+    words.add_argument("clause", nargs="*")
+    for name in ("run", "views", "counts", "names", "meaning", "check"):
+        words.add_argument(f"--{name}", action="store_true")
+    found = words.parse_args()
+    if bool(found.clause) == found.meaning:
+        words.error("a clause, or --meaning")
+    return found
+
+
+def main():
+    words, library = read_words(), Library()
+    try:
+        if words.meaning:
+            return write_page(library, words.check)
+        found, kit = reached(library, the_claim(library, " ".join(words.clause)), words.run, words.views)
+    except (antt.Unplaced, antt.Unread) as why:
+        print(f"{os.path.basename(sys.argv[0])}: {why}", file=sys.stderr)
+        return 1
+    order = in_order(library, found)
+    if words.names:
+        print("\n".join(f"{shown.path}: {shown.name}" for shown in order))
+        return 0
+    if not words.counts:
+        print_definitions(library, order)
+        print("=" * 100)
+    print_counts(order, kit)
+    return 0
+
+
+if __name__ == "__main__":
+    sys.exit(main())
