@@ -17,7 +17,7 @@ BUILT_IN = set("→ × ↦ = : ← λ _ ∀ 𝕀 as in record do elim let where 
 SMALL_CONSTRUCTORS = set("true false zero suc pos negsuc [] ◌∷◌ null item no_items".split())
 
 Token = namedtuple("Token", "text line column glued")
-Group = namedtuple("Group", "text nodes line column glued")
+Group = namedtuple("Group", "text nodes line column glued last")
 # What a name stands for: a definition's key, and the constructor of it that is meant, if one is.
 Target = namedtuple("Target", "key constructor")
 
@@ -52,7 +52,7 @@ def tree(stream):
             opened, nodes = stack.pop()
             if opened is None or CLOSING[opened.text] != token.text:
                 raise Unread(f"line {token.line}: {token.text}")
-            stack[-1][1].append(Group(opened.text, nodes, opened.line, opened.column, opened.glued))
+            stack[-1][1].append(Group(opened.text, nodes, opened.line, opened.column, opened.glued, token.line))
         else:
             stack[-1][1].append(token)
     return stack[0][1]
@@ -71,7 +71,7 @@ def by_layout(nodes):
 
 def last_line(nodes):
     """The line of the last token."""
-    return max((last_line(node.nodes) if isinstance(node, Group) and node.nodes else node.line for node in nodes), default=0)
+    return nodes[-1].last if isinstance(nodes[-1], Group) else nodes[-1].line
 
 
 def split(nodes, *words):
@@ -226,12 +226,12 @@ class Scope:
             else:
                 self.modules[name] = path
 
-    def below(self):
-        """A scope that sees all of this one and may have more."""
-        inner = Scope(self.where, self.library)
-        inner.names, inner.modules = dict(self.names), dict(self.modules)
-        inner.operators = {part: list(names) for part, names in self.operators.items()}
-        return inner
+    def copy(self):
+        """A scope that has all of this one and may get more."""
+        found = Scope(self.where, self.library)
+        found.names, found.modules = dict(self.names), dict(self.modules)
+        found.operators = {part: list(names) for part, names in self.operators.items()}
+        return found
 
     def operator(self, word, follows):
         """The operator of which this word is a part, by whether an argument stands before it."""

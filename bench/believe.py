@@ -4,7 +4,7 @@
 usage: bench/believe.py CLAUSE [--run] [--views] [--counts | --names]
        bench/believe.py --meaning [--check]
 CLAUSE is a public function and its clause, as "play answers", "meerkat_frame played", "ra_author::author ends" or
-"Runtime::frame events", or a function alone, as a law, for all its clauses; in one word or two.
+"Runtime::frame taken", or a function alone, as a law, for all its clauses; in one word or two.
 
 It prints the definitions in the order to read, each after those that it names, with their comments and the heading of
 docs/DEFINITIONS.md that their file names; then how many definitions, lines and crates these are, which names of the
@@ -23,6 +23,8 @@ that `run` has not (CUT below). Left out is such a constructor; a case with one 
 elsewhere in what is left of it; and whatever only these name."""
 import argparse
 import os
+import pathlib
+import signal
 import sys
 
 import antt
@@ -90,12 +92,16 @@ def print_definitions(library, order):
         print("\n" + "\n".join(shown.comment + shown.text()))
 
 
+def lines_of(order):
+    return sum(shown.count() for shown in order)
+
+
 def print_counts(order, kit):
     crates = sorted({shown.crate() for shown in order})
-    print(f"definitions {len(order)} lines {sum(shown.count() for shown in order)} crates {len(crates)}")
+    print(f"definitions {len(order)} lines {lines_of(order)} crates {len(crates)}")
     for crate in crates:
         here = [shown for shown in order if shown.crate() == crate]
-        print(f"  {crate:<18}{len(here):>4}{sum(shown.count() for shown in here):>6}")
+        print(f"  {crate:<18}{len(here):>4}{lines_of(here):>6}")
     print(f"names of the kit {len(kit)}")
     modules = {}
     for name in kit:
@@ -132,13 +138,19 @@ def chapters():
 
 
 def by_chapter(order, all_chapters):
-    """The definitions of each chapter; the status is 1 where a file is in none."""
-    found = {chapter.title: [] for chapter in all_chapters}
+    """The definitions of each chapter. It fails where a file is in no chapter, or a definition names one of a later chapter."""
+    found, seen = {chapter.title: [] for chapter in all_chapters}, set()
     for shown in order:
         chapter = max(all_chapters, key=lambda it: it.has(shown.path))
         if not chapter.has(shown.path):
             raise antt.Unplaced(f"bench/meaning.txt: no chapter has {shown.path}")
         found[chapter.title].append(shown)
+    keys = {shown.key for shown in order}
+    for shown in (shown for here in found.values() for shown in here):
+        seen.add(shown.key)
+        for target in shown.targets():
+            if target.key in keys - seen:
+                raise antt.Unplaced(f"bench/meaning.txt: {shown.key} comes before {target.key}")
     return found
 
 
@@ -147,13 +159,18 @@ def page(library):
     found, kit = reached(library, the_claim(library, HEADLINE), True, False)
     order = in_order(library, found)
     head, all_chapters = chapters()
-    parts = ["\n".join(head.words).format(
-        definitions=len(order), lines=sum(it.count() for it in order), crates=len({it.crate() for it in order}), kit=len(kit)
-    ).strip()]
+    counts = {"definitions": len(order), "lines": lines_of(order), "crates": len({it.crate() for it in order}), "kit": len(kit)}
+    parts, contents = ["\n".join(head.words).format(**counts).strip()], by_chapter(order, all_chapters)
+    parts.append("\n".join(["| Chapter | Definitions | Lines |", "|---|---|---|", *map(row, contents.items())]))
     for chapter in all_chapters:
         parts += [f"## {chapter.title}", "\n".join(chapter.words).strip()]
-        parts += section(library, by_chapter(order, all_chapters)[chapter.title])
+        parts += section(library, contents[chapter.title])
     return "\n\n".join(parts) + "\n"
+
+
+def row(chapter):
+    title, order = chapter
+    return f"| [{title}](#{anchor(title)}) | {len(order)} | {lines_of(order)} |"
 
 
 def section(library, order):
@@ -186,8 +203,7 @@ def the_claim(library, words):
 def write_page(library, only_compare):
     text = page(library)
     if only_compare:
-        with open(PAGE, encoding="utf-8") as it:
-            same = it.read() == text
+        same = os.path.exists(PAGE) and pathlib.Path(PAGE).read_text(encoding="utf-8") == text
         print("docs/MEANING.md is what the definitions say" if same else "docs/MEANING.md is not: bench/believe.py --meaning writes it")
         return 0 if same else 1
     with open(PAGE, "w", encoding="utf-8") as it:
@@ -208,6 +224,7 @@ def read_words():
 
 def main():
     words, library = read_words(), Library()
+    signal.signal(signal.SIGPIPE, signal.SIG_DFL)
     try:
         if words.meaning:
             return write_page(library, words.check)

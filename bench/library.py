@@ -48,22 +48,28 @@ class SpecFile:
             text = it.read()
         self.path, self.lines = path, text.split("\n")
         self.header, self.definitions = antt.declarations(antt.tree(antt.tokens(text)))
-        self.library, self.found = library, None
-        self.own = {}
+        self.library, self.imported, self.own = library, None, {}
         for definition in self.definitions:
-            key = f"{path} {definition.name}"
-            self.own.update({name: antt.Target(key, name) for name in definition.constructors()})
-            self.own[definition.name] = antt.Target(key, None)
+            self.own.update(self.names(definition))
 
-    def scope(self):
-        if self.found is None:
-            self.found = antt.Scope(f"crates/{self.path}", self.library)
+    def names(self, definition):
+        """The names that a definition declares, constructors first."""
+        key = f"{self.path} {definition.name}"
+        found = {name: antt.Target(key, name) for name in definition.constructors()}
+        return {**found, definition.name: antt.Target(key, None)}
+
+    def scope(self, definition):
+        """The names that a definition sees: what the file imports, and what it declares up to there."""
+        if self.imported is None:
+            self.imported = antt.Scope(f"crates/{self.path}", self.library)
             for line in self.header:
                 if line[0].text == "use":
-                    self.found.use(line)
-            for name, target in self.own.items():
-                self.found.add(name, target)
-        return self.found
+                    self.imported.use(line)
+        found = self.imported.copy()
+        for earlier in self.definitions[: self.definitions.index(definition) + 1]:
+            for name, target in self.names(earlier).items():
+                found.add(name, target)
+        return found
 
     def export(self, name):
         """What a name of this file stands for to others."""
@@ -77,7 +83,7 @@ class SpecFile:
 
     def shown(self, name):
         definition = next(it for it in self.definitions if it.name == name)
-        around, pieces = antt.Reader(self.scope()).definition(definition)
+        around, pieces = antt.Reader(self.scope(definition)).definition(definition)
         first, parts, last = definition.pieces[0].first, [], definition.pieces[0].first - 1
         for piece, left, targets in pieces:
             lines = self.lines[last : piece.last]
