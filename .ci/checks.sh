@@ -95,6 +95,7 @@ check_documents() {
     for name in links claims; do
         has $name python3 git && check $name bench/$name.py
     done
+    has meaning python3 && check meaning bench/believe.py --meaning --check
     has words python3 && check words bench/words.py check "$player" "$author"
     has edits python3 && check edits bench/edits.py --check
 }
