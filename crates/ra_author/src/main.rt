@@ -3,10 +3,6 @@
 
 mod author;
 mod laws;
-#[cfg(test)]
-mod tests;
-#[cfg(test)]
-mod why_tests;
 
 use author::author;
 use ra_io::{RealFiles, RealSink};

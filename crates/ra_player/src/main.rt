@@ -3,8 +3,6 @@
 
 mod laws;
 mod play;
-#[cfg(test)]
-mod tests;
 
 use play::play;
 use ra_io::{RealFiles, RealSink};
