@@ -3,17 +3,9 @@
 #![tactic(auto)]
 
 #[cfg(test)]
-mod changed;
-#[cfg(test)]
-mod checks;
-#[cfg(test)]
 mod cuts;
 #[cfg(test)]
 mod displays;
-#[cfg(test)]
-mod earned;
-#[cfg(test)]
-mod explains;
 #[cfg(test)]
 mod faults;
 #[cfg(test)]
@@ -23,16 +15,10 @@ mod jobs;
 #[cfg(test)]
 mod large;
 #[cfg(test)]
-mod lints;
-#[cfg(test)]
 mod normals;
 #[cfg(test)]
 mod pieces;
 #[cfg(test)]
 mod progress;
-#[cfg(test)]
-mod refusals;
-#[cfg(test)]
-mod runs;
 #[cfg(test)]
 mod words;
