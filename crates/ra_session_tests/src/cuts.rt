@@ -1,10 +1,21 @@
 //! Traces that are cut at every byte.
 
-use crate::displays::{FOREST, FOREST_TEXT, FOREST_TRACE};
 use crate::jobs::{FIVES, THREE_HITS, run_ends_so};
 use ra_text::OutOfMemory;
 use std::alloc::Global;
 use std::fmt::Write;
+
+// An achievement, a leaderboard and a script with a lookup and a format.
+const FOREST: &[u8] =
+    b"A 101 0xH00fe=3_d0xH0010=4_0xH0010=5S0xH0020=1S0xH0020=2\nL 9 FRAMES STA:0xH0010=1_d0xH0010=0::CAN:0xH00fe=0::SUB:0xH0010=2_d0xH0010=1::VAL:M:0xH00fe=3\nP\nLookup:Stage\n0=Title\n1-4=Forest\n*=Castle\n\nFormat:Pts\nFormatType=SCORE\n\nDisplay:\n?0xH00fe=0?In the menu\n@Stage(0xH0010) with @Pts(0x 0030) points // stage and points\n";
+
+// Its six frames, with a show after the first and the last.
+const FOREST_TRACE: &[u8] =
+    b"RATR\x01\0\0 \0FPW\xfe\0\0\0\x01\0\x03W\x10\0\0\0\x01\0\x01W \0\0\0\x01\0\x02FFW\x10\0\0\0\x01\0\x02FW\x10\0\0\0\x01\0\x04FW\x10\0\0\0\x01\0\x05W0\0\0\0\x02\0\xe8\x03FPE";
+
+// What they print.
+const FOREST_TEXT: &[u8] =
+    b"presence 1 In the menu\nstart 1 9\ntrack 1 9 0:00.01\ntrack 2 9 0:00.03\nsubmit 3 9 3 0:00.05\nunlock 5 101\npresence 6 Castle with 001000 points\n";
 
 // A set, a trace and its text, and where each record starts, with how much is printed before it.
 #[derive(Clone, Copy, Debug)]

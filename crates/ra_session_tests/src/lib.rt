@@ -9,13 +9,7 @@ mod displays;
 #[cfg(test)]
 mod faults;
 #[cfg(test)]
-mod imports;
-#[cfg(test)]
 mod jobs;
-#[cfg(test)]
-mod large;
-#[cfg(test)]
-mod normals;
 #[cfg(test)]
 mod pieces;
 #[cfg(test)]
