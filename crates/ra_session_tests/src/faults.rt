@@ -1,11 +1,26 @@
 //! Faults of the files and of the output, at every call.
 
 use crate::jobs::{FIVES, RUN, THREE_HITS, failing_files, status_of};
-use crate::progress::{RESTORE, SAVE};
 use ra_io::{Files, MemFiles, MemSink, Sink, SinkFailed};
 use ra_session::RunFiles;
 use ra_text::OutOfMemory;
 use std::alloc::Global;
+
+// A run that puts the file p.
+const SAVE: RunFiles<'static> = RunFiles {
+    set: "S",
+    trace: "T",
+    restore: None,
+    save: Some("p"),
+};
+
+// A run that goes on from the file p.
+const RESTORE: RunFiles<'static> = RunFiles {
+    set: "S",
+    trace: "T",
+    restore: Some("p"),
+    save: None,
+};
 
 // Which reads, puts and writes of a run fail, and how many bytes a write takes at most.
 #[derive(Clone, Copy, Debug)]

@@ -5,14 +5,10 @@
 #[cfg(test)]
 mod cuts;
 #[cfg(test)]
-mod displays;
-#[cfg(test)]
 mod faults;
 #[cfg(test)]
 mod jobs;
 #[cfg(test)]
 mod pieces;
-#[cfg(test)]
-mod progress;
 #[cfg(test)]
 mod words;
