@@ -12,12 +12,6 @@ fn words_of(alloc: Global, texts: &[&str]) -> Result<Vec<String>, OutOfMemory> {
     Ok(words)
 }
 
-// Whether the words are this job.
-fn reads(alloc: Global, texts: &[&str], job: Option<Job<'_>>) -> Result<bool, OutOfMemory> {
-    let words = words_of(alloc, texts)?;
-    Ok(read_job(alloc, words.as_slice())? == job)
-}
-
 // Words, and the job that they are.
 type Row = (&'static [&'static str], Job<'static>);
 
@@ -90,23 +84,7 @@ const JOBS: [Row; 14] = [
     ),
 ];
 
-// The place of the first words that are not this job.
-fn other_job(alloc: Global, rows: &[Row]) -> Result<Option<usize>, OutOfMemory> {
-    for (place, (texts, job)) in rows.iter().enumerate() {
-        if !reads(alloc, *texts, Some(*job))? {
-            return Ok(Some(place));
-        }
-    }
-    Ok(None)
-}
-
-#[test]
-fn each_shape_is_a_job(rt: HostRuntime) -> Result<(), OutOfMemory> {
-    assert_eq!(rt; other_job(rt.alloc(), &JOBS)?, None);
-    Ok(())
-}
-
-const NO_JOBS: [&[&str]; 50] = [
+const NO_JOBS: [&'static [&'static str]; 50] = [
     &[],
     &["run", "S"],
     &["run", "S", "T", "--save"],
@@ -159,18 +137,29 @@ const NO_JOBS: [&[&str]; 50] = [
     &["import", "--save", "F", "S"],
 ];
 
-// The place of the first words that are a job.
-fn other_words(alloc: Global, rows: &[&[&str]]) -> Result<Option<usize>, OutOfMemory> {
-    for (place, texts) in rows.iter().enumerate() {
+// Whether the words are this job.
+fn reads(alloc: Global, texts: &[&str], job: Option<Job<'_>>) -> Result<bool, OutOfMemory> {
+    let words = words_of(alloc, texts)?;
+    Ok(read_job(alloc, words.as_slice())? == job)
+}
+
+// The first words that are not their job, or that are a job and should be none.
+fn other_words(alloc: Global) -> Result<Option<&'static [&'static str]>, OutOfMemory> {
+    for (texts, job) in &JOBS {
+        if !reads(alloc, *texts, Some(*job))? {
+            return Ok(Some(*texts));
+        }
+    }
+    for texts in &NO_JOBS {
         if !reads(alloc, *texts, None)? {
-            return Ok(Some(place));
+            return Ok(Some(*texts));
         }
     }
     Ok(None)
 }
 
 #[test]
-fn other_words_are_no_job(rt: HostRuntime) -> Result<(), OutOfMemory> {
-    assert_eq!(rt; other_words(rt.alloc(), &NO_JOBS)?, None);
+fn words_are_their_jobs(rt: HostRuntime) -> Result<(), OutOfMemory> {
+    assert_eq!(rt; other_words(rt.alloc())?, None);
     Ok(())
 }
