@@ -1,6 +1,7 @@
 //! Traces that are cut at every byte.
 
-use crate::jobs::{FIVES, THREE_HITS, run_ends_so};
+use crate::jobs::{Call, FIVES, RUN, THREE_HITS, ends_so};
+use ra_io::SureFiles;
 use ra_text::OutOfMemory;
 use std::alloc::Global;
 use std::fmt::Write;
@@ -48,17 +49,20 @@ fn cut_text(alloc: Global, cuts: &Cuts<'_>, len: usize) -> Result<Vec<u8>, OutOf
     Ok(text)
 }
 
+// The files of a run over the first bytes of the trace.
+fn files_of(alloc: Global, cuts: &Cuts<'_>, len: usize) -> Result<SureFiles, OutOfMemory> {
+    let mut files = SureFiles::new(alloc)?;
+    files.add("S", cuts.set)?;
+    files.add("T", &cuts.trace[..len.min(cuts.trace.len())])?;
+    Ok(files)
+}
+
 // The first length at which the cut trace does not end so.
 fn other_cut(alloc: Global, cuts: &Cuts<'_>) -> Result<Option<usize>, OutOfMemory> {
     for (len, _) in cuts.trace.iter().enumerate() {
         let text = cut_text(alloc, cuts, len)?;
-        let front = cuts
-            .trace
-            .iter()
-            .take(len)
-            .copied()
-            .collect::<Vec<u8>>(alloc)?;
-        if !run_ends_so(alloc, cuts.set, front.as_slice(), 7, text.as_slice())? {
+        let mut files = files_of(alloc, cuts, len)?;
+        if !ends_so(alloc, &Call::Run(RUN), &mut files, 7, text.as_slice()) {
             return Ok(Some(len));
         }
     }

@@ -1,13 +1,13 @@
 //! Traces that come in pieces, and a read of one that fails at a place.
 
-use crate::jobs::{FIVES, RUN, THREE_HITS, files_of, status_of};
-use ra_io::{Failed, Files, PutFailed, SureFiles, SureSink};
+use crate::jobs::{Call, FIVES, RUN, THREE_HITS, ends_so};
+use ra_io::{Failed, Files, PutFailed, SureFiles};
 use ra_text::OutOfMemory;
 use std::alloc::Global;
 
 // Files that give this many bytes a read at most, and of which the read of the trace at one place fails.
 #[derive(Drop)]
-pub(crate) struct PiecedFiles {
+struct PiecedFiles {
     files: SureFiles,
     most: usize,
     failing: u64,
@@ -39,32 +39,12 @@ impl Files for PiecedFiles {
     }
 }
 
-/// Files of a set and a trace that give this many bytes a read, of which the read of the trace at one place fails.
-pub(crate) fn pieced(
-    alloc: Global,
-    given: (&[u8], &[u8]),
-    reads: (usize, u64),
-) -> Result<PiecedFiles, OutOfMemory> {
-    let files = files_of(alloc, given.0, given.1)?;
-    Ok(PiecedFiles {
-        files,
-        most: reads.0,
-        failing: reads.1,
-        faults: 0,
-    })
-}
-
-// Whether a run over this many bytes a read, of which one may fail, ends so.
-fn pieces_end_so(
-    alloc: Global,
-    given: (&[u8], &[u8]),
-    reads: (usize, u64),
-    status: u8,
-    text: &[u8],
-) -> Result<bool, OutOfMemory> {
-    let mut files = pieced(alloc, given, reads)?;
-    let mut out = SureSink::new(alloc);
-    Ok(status_of(alloc, &RUN, &mut files, &mut out) == status && out.taken() == text)
+// A job over a set and a trace.
+#[derive(Clone, Copy)]
+struct Over<'a> {
+    call: Call<'static>,
+    set: &'a [u8],
+    trace: &'a [u8],
 }
 
 // A place at which no read begins.
@@ -73,23 +53,28 @@ const NOWHERE: u64 = u64::MAX;
 // How many bytes a read gives, the place of a read that fails, and the status and the text.
 type Row = (usize, u64, u8, &'static [u8]);
 
-const PIECES: [Row; 4] = [
-    (1, NOWHERE, 0, b"unlock 4 1\n"),
-    (7, NOWHERE, 0, b"unlock 4 1\n"),
-    (65_536, NOWHERE, 0, b"unlock 4 1\n"),
-    (1, 38, 4, b"unlock 4 1\nread fault\n"),
-];
+// The files of a job.
+fn pieced(alloc: Global, over: &Over<'_>, row: &Row) -> Result<PiecedFiles, OutOfMemory> {
+    let mut files = SureFiles::new(alloc)?;
+    files.add("S", over.set)?;
+    files.add("T", over.trace)?;
+    Ok(PiecedFiles {
+        files,
+        most: row.0,
+        failing: row.1,
+        faults: 0,
+    })
+}
 
-// The place of the first run over the trace of fives that does not end so.
-fn other_pieces(alloc: Global, rows: &[Row]) -> Result<Option<usize>, OutOfMemory> {
-    for (place, (most, failing, status, text)) in rows.iter().enumerate() {
-        if !pieces_end_so(
-            alloc,
-            (THREE_HITS, FIVES),
-            (*most, *failing),
-            *status,
-            *text,
-        )? {
+// The place of the first row that does not end so.
+fn other_pieces(
+    alloc: Global,
+    over: &Over<'_>,
+    rows: &[Row],
+) -> Result<Option<usize>, OutOfMemory> {
+    for (place, row) in rows.iter().enumerate() {
+        let mut files = pieced(alloc, over, row)?;
+        if !ends_so(alloc, &over.call, &mut files, row.2, row.3) {
             return Ok(Some(place));
         }
     }
@@ -97,9 +82,33 @@ fn other_pieces(alloc: Global, rows: &[Row]) -> Result<Option<usize>, OutOfMemor
 }
 
 // The trace has 39 bytes, the last of which is its end record.
+const PLAYED: &[Row] = &[
+    (1, NOWHERE, 0, b"unlock 4 1\n"),
+    (7, NOWHERE, 0, b"unlock 4 1\n"),
+    (65_536, NOWHERE, 0, b"unlock 4 1\n"),
+    (1, 38, 4, b"unlock 4 1\nread fault\n"),
+];
+
+// The unlock is the frame at 37, and the record after it is never asked for.
+const EXPLAINED: &[Row] = &[
+    (1, 37, 4, b"read fault\n"),
+    (1, 38, 0, b"unlock 4 1\nsince 0\n0.0 1:1 2:2 4:3\n"),
+    (1, 39, 0, b"unlock 4 1\nsince 0\n0.0 1:1 2:2 4:3\n"),
+];
+
 #[test]
-fn plays_a_trace_in_any_pieces(rt: HostRuntime) -> Result<(), OutOfMemory> {
-    assert_eq!(rt; other_pieces(rt.alloc(), &PIECES)?, None);
+fn a_trace_is_read_in_any_pieces(rt: HostRuntime) -> Result<(), OutOfMemory> {
+    let played = Over {
+        call: Call::Run(RUN),
+        set: THREE_HITS,
+        trace: FIVES,
+    };
+    let explained = Over {
+        call: Call::Explain,
+        ..played
+    };
+    assert_eq!(rt; other_pieces(rt.alloc(), &played, PLAYED)?, None);
+    assert_eq!(rt; other_pieces(rt.alloc(), &explained, EXPLAINED)?, None);
     Ok(())
 }
 
@@ -116,22 +125,19 @@ fn filled_twice(alloc: Global) -> Result<Vec<u8>, OutOfMemory> {
     Ok(trace)
 }
 
-// Whether a run over the longest writes, this many bytes a read, unlocks.
-fn longest_unlocks(alloc: Global, trace: &[u8], most: usize) -> Result<bool, OutOfMemory> {
-    let set = b"A 1 d0xH0010=5\n";
-    pieces_end_so(alloc, (set, trace), (most, NOWHERE), 0, b"unlock 1 1\n")
-}
-
-// The same for some and for many bytes a read.
-fn both_unlock(alloc: Global) -> Result<bool, OutOfMemory> {
-    let trace = filled_twice(alloc)?;
-    let some = longest_unlocks(alloc, trace.as_slice(), 7)?;
-    let many = longest_unlocks(alloc, trace.as_slice(), 65_536)?;
-    Ok(some && many)
-}
+const LONGEST: &[Row] = &[
+    (7, NOWHERE, 0, b"unlock 1 1\n"),
+    (65_536, NOWHERE, 0, b"unlock 1 1\n"),
+];
 
 #[test]
-fn plays_the_longest_writes_in_pieces(rt: HostRuntime) -> Result<(), OutOfMemory> {
-    assert!(rt; both_unlock(rt.alloc())?);
+fn the_longest_writes_are_read_in_pieces(rt: HostRuntime) -> Result<(), OutOfMemory> {
+    let trace = filled_twice(rt.alloc())?;
+    let over = Over {
+        call: Call::Run(RUN),
+        set: b"A 1 d0xH0010=5\n",
+        trace: trace.as_slice(),
+    };
+    assert_eq!(rt; other_pieces(rt.alloc(), &over, LONGEST)?, None);
     Ok(())
 }
