@@ -1,5 +1,5 @@
-//! Worked jobs over the calls of `ra_session`, their words and their faults. It has tests alone, so that what they call is proved
-//! once.
+//! Jobs over files and outputs that fail, that come in pieces, or that are too long for a folder, and words of the command line;
+//! all other worked jobs are cases of the built programs. It has tests alone, so that what they call is proved once.
 #![tactic(auto)]
 
 #[cfg(test)]
@@ -8,6 +8,8 @@ mod cuts;
 mod faults;
 #[cfg(test)]
 mod jobs;
+#[cfg(test)]
+mod large;
 #[cfg(test)]
 mod pieces;
 #[cfg(test)]
