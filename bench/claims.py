@@ -31,10 +31,13 @@ NAMED = re.compile(r"--[a-z]\w*|[a-z]\w*_\w+\b(?!\()|^[\w-]+\.[a-z]+$")
 OTHERS = re.compile(r"rc_\w+|_lboard|_get_lboard|_richpresence|peek|serialize_progress")
 # Files of specs/ that state no rule of a document: what values are seen as, and rows and numbers that hold them.
 NO_RULE = (
-    "ra_account_tests/specs/Noting.antt", "ra_calls/specs/Choosing.antt", "ra_calls/specs/GameViews.antt", "ra_calls/specs/Owned.antt",
+    "ra_calls/specs/Choosing.antt", "ra_calls/specs/GameViews.antt", "ra_calls/specs/Owned.antt",
     "ra_calls/specs/RecordingViews.antt", "ra_calls/specs/Views.antt", "ra_chain/specs/Order.antt", "ra_memref/specs/Flags.antt",
     "ra_truths/specs/Packing.antt",
 )
+
+# Whose headings stand in the tables of docs/DEFINITIONS.md alone: to change a comment of a low crate proves every crate above it anew.
+IN_TABLES = "crates/ra_progress/specs/"
 
 FUNCTION = re.compile(r"^( *)(?:pub(?:\(\w+\))? )?(?:ghost )?(?:const )?(?:extern \"C\" )?fn (\w+)")
 OWNER = re.compile(r"^(?:impl(?:<.*?>)? (?:([\w:]+)(?:<.*>)? for )?|(?:pub )?trait |(?:pub )?(?:enum|struct) )(\w+)")
@@ -225,7 +228,7 @@ def wrong_heads():
     for path in tracked(".antt"):
         head = re.match(r"(--.*\n)*", text_of(path))[0]
         is_rule = "/specs/" in path and not path.endswith(("/Lib.antt", *NO_RULE))
-        if is_rule and "docs/" not in head:
+        if is_rule and "docs/" not in head and not path.startswith(IN_TABLES):
             yield f"{path}: its head cites no heading"
 
 
