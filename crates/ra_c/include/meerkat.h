@@ -1,5 +1,5 @@
 /* Meerkatalloy for C: which achievements unlock at a frame, which leaderboard attempts start, end or are cancelled, and
- * what the rich presence says. The archive is libra_c.a; docs/EMBEDDING.md says how it is built and linked.
+ * what the rich presence says. Installed it is libmeerkat; docs/EMBEDDING.md says how it is built and linked.
  *
  * An emulator makes a game of a set's text, hands it the memory of each frame where it lies, and asks what happened:
  *
@@ -210,7 +210,7 @@ uint32_t meerkat_new(const uint8_t *text, size_t length, uint32_t size, meerkat_
 uint32_t meerkat_free(meerkat_game *game);
 
 /* Takes one frame of the memory that the banks are, one after another. It reads them where they lie, each cell of the set
- * at most twice, and keeps none of them. It takes memory only where an achievement is recorded; see meerkat_record.
+ * at most twice, and each cell of a recorded achievement at most twice more, and keeps none of them. It takes memory only where an achievement is recorded; see meerkat_record.
  * MEERKAT_RANGE where the banks have not size bytes together, and then nothing changes. MEERKAT_EMPTY. */
 uint32_t meerkat_frame(meerkat_game *game, const meerkat_bank *banks, size_t count);
 
