@@ -1,15 +1,14 @@
-//! The worked file of one achievement in each version, and its neighbours.
+//! Names, orders and lengths of progress files, own entries of one name, and files of the most bytes. What other files say, and
+//! why they are refused, is shown by runs of the player.
 
 ghost use Rattle.std.specs.Prelude.{◌≤◌, ◌<◌, length as size_of, IfOk};
 ghost use Rattle.ra_progress.specs.Names.{IsUsable};
 
 use md5::{Digest, Md5};
-use ra_progress::ProgressRefused::{
-    BadEntry, BadState, OtherSet, WrongLength, WrongMark, WrongVersion,
-};
+use ra_progress::ProgressRefused::{BadEntry, OtherSet};
 use ra_progress::{
     ItemKept, ItemShape, Named, OrderRoom, PresenceShape, ProgressRefused, Shape, Snapshot, check,
-    decode, encode, frames_at, item_at, length, length_1, matches, name_at, order_of, word_at,
+    decode, frames_at, item_at, length, length_1, matches, name_at, order_of, word_at,
 };
 use ra_text::OutOfMemory;
 use std::alloc::Global;
@@ -150,382 +149,13 @@ fn said(
     Ok(said_of(&snapshot, number))
 }
 
-// Why such a file is refused by the set of the worked file.
-fn refused_1(alloc: Global, texts: &[&str]) -> Result<Option<ProgressRefused>, OutOfMemory> {
-    let shape = row_1(alloc)?;
-    refused(alloc, &shape, texts)
-}
-
-// What such a file says of the achievement of that set.
-fn said_1(alloc: Global, texts: &[&str]) -> Result<Option<(u32, u8, u32, bool)>, OutOfMemory> {
-    let shape = row_1(alloc)?;
-    said(alloc, &shape, 0, texts)
-}
-
 const OTHER: [u8; 16] = [0xee; 16];
 
-// The front of a file of the set, of one of another set, and of older ones.
-const FRONT: &str = "5241504703 95c32026a3a7b6fc1aa53d355d82ba02 0500000000000000";
-
-const FRONT_2: &str = "5241504702 95c32026a3a7b6fc1aa53d355d82ba02 0500000000000000";
-
-const FRONT_1: &str = "5241504701 95c32026a3a7b6fc1aa53d355d82ba02 0500000000000000";
-
+// The front of a file of another set.
 const OTHER_FRONT: &str = "5241504703 eeeeeeeeeeeeeeeeeeeeeeeeeeeeeeee 0500000000000000";
 
-const OTHER_FRONT_2: &str = "5241504702 eeeeeeeeeeeeeeeeeeeeeeeeeeeeeeee 0500000000000000";
-
-const OTHER_FRONT_1: &str = "5241504701 eeeeeeeeeeeeeeeeeeeeeeeeeeeeeeee 0500000000000000";
-
-// The names of the cell and of the item of the set, and one that it has not.
-const C: &str = "59749bd5ca8abe768eb137061a4f30c6";
-
+// The name of the item of the set.
 const A: &str = "798a55fc599d9d9b406c25a642fa8a9a";
-
-const X: &str = "11111111111111111111111111111111";
-
-// The texts of a file, and what it says: the cell, and the state, the hit and the flag of the achievement.
-type Said = (&'static [&'static str], (u32, u8, u32, bool));
-
-// The place of the first file that says something else.
-fn other_said(alloc: Global, rows: &[Said]) -> Result<Option<usize>, OutOfMemory> {
-    for (place, (texts, wanted)) in rows.iter().enumerate() {
-        if said_1(alloc, *texts)? != Some(*wanted) {
-            return Ok(Some(place));
-        }
-    }
-    Ok(None)
-}
-
-// The texts of a file, and why it is refused.
-type Refusal = (&'static [&'static str], Option<ProgressRefused>);
-
-// The place of the first file that is not refused so.
-fn other_refusal(alloc: Global, rows: &[Refusal]) -> Result<Option<usize>, OutOfMemory> {
-    for (place, (texts, why)) in rows.iter().enumerate() {
-        if refused_1(alloc, *texts)? != *why {
-            return Ok(Some(place));
-        }
-    }
-    Ok(None)
-}
-
-const VERSIONS: &[Said] = &[
-    (
-        &[
-            FRONT,
-            "01000000",
-            C,
-            "05000000 00000000 01000000",
-            A,
-            "09000000 0c 00000000 03000000",
-        ],
-        (5, 4, 3, true),
-    ),
-    (
-        &[
-            FRONT_2,
-            "01000000",
-            C,
-            "05000000 00000000 01000000",
-            A,
-            "09000000 04 00000000 03000000",
-        ],
-        (5, 4, 3, true),
-    ),
-    (&[FRONT_1, "05000000 04 00000000 03000000"], (5, 4, 3, true)),
-];
-
-#[test]
-fn each_version_is_read(rt: HostRuntime) -> Result<(), OutOfMemory> {
-    assert_eq!(rt; other_said(rt.alloc(), VERSIONS)?, None);
-    Ok(())
-}
-
-// The front of a file of the set, its state byte, and why it is refused.
-type State = (&'static str, &'static str, Option<ProgressRefused>);
-
-const STATES: &[State] = &[
-    (FRONT, "04", Some(BadState { at: 61, found: 4 })),
-    (FRONT, "07", Some(BadState { at: 61, found: 7 })),
-    (FRONT, "0d", Some(BadState { at: 61, found: 13 })),
-    (FRONT_2, "05", Some(BadState { at: 61, found: 5 })),
-    (FRONT_2, "08", Some(BadState { at: 61, found: 8 })),
-    (FRONT, "03", None),
-    (FRONT, "08", None),
-    (FRONT, "0c", None),
-    (FRONT_2, "04", None),
-];
-
-fn other_state(alloc: Global, rows: &[State]) -> Result<Option<usize>, OutOfMemory> {
-    let none = "00000000 00000000 01000000";
-    for (place, (front, byte, why)) in rows.iter().enumerate() {
-        let file = [*front, none, A, "09000000", *byte, "00000000 03000000"];
-        if refused_1(alloc, &file)? != *why {
-            return Ok(Some(place));
-        }
-    }
-    Ok(None)
-}
-
-#[test]
-fn states_are_in_the_table_of_their_version(rt: HostRuntime) -> Result<(), OutOfMemory> {
-    assert_eq!(rt; other_state(rt.alloc(), STATES)?, None);
-    Ok(())
-}
-
-// How many first bytes of the worked file there are, and how many it wants.
-type Need = (u64, u64);
-
-const NEEDS: &[Need] = &[
-    (44, 45),
-    (45, 49),
-    (48, 49),
-    (49, 73),
-    (72, 73),
-    (73, 77),
-    (77, 97),
-    (96, 97),
-    (97, 106),
-    (105, 106),
-];
-
-// Why this many first bytes of the worked file are refused.
-fn refused_front(shape: &Shape, count: usize) -> Option<ProgressRefused>
-    requires { IsUsable shape.now }
-{
-    check(shape, &FILE[..count.min(106)]).err()
-}
-
-// The first count of bytes that is not refused for its need.
-fn other_need(shape: &Shape, rows: &[Need]) -> Option<u64>
-    requires { IsUsable shape.now }
-{
-    for (found, wanted) in rows {
-        let short = WrongLength {
-            wanted: *wanted,
-            found: *found,
-        };
-        if refused_front(shape, *found as usize) != Some(short) {
-            return Some(*found);
-        }
-    }
-    None
-}
-
-// The same of the set of the worked file, and why the whole file is refused.
-fn needs(alloc: Global) -> Result<(Option<u64>, Option<ProgressRefused>), OutOfMemory> {
-    let shape = row_1(alloc)?;
-    Ok((other_need(&shape, NEEDS), refused_front(&shape, 106)))
-}
-
-#[test]
-fn a_cut_file_wants_its_need(rt: HostRuntime) -> Result<(), OutOfMemory> {
-    assert!(rt; needs(rt.alloc())? == (None, None));
-    Ok(())
-}
-
-// Why the worked file is refused with four other bytes at a place, and a byte more at its end.
-fn refused_changed(shape: &Shape, at: u8, four: [u8; 4]) -> Option<ProgressRefused>
-    requires { IsUsable shape.now }
-{
-    let at = usize::from(at).min(103);
-    let mut file = [0; 107];
-    file[..106].copy_from_slice(&FILE);
-    file[at..at + 4].copy_from_slice(&four);
-    check(shape, &file).err()
-}
-
-// A place, four bytes there, and why the file is refused then.
-type Change = (u8, [u8; 4], ProgressRefused);
-
-const CHANGES: &[Change] = &[
-    (
-        103,
-        [255; 4],
-        WrongLength {
-            wanted: 106,
-            found: 107,
-        },
-    ),
-    (
-        29,
-        [255; 4],
-        WrongLength {
-            wanted: 85899345953,
-            found: 107,
-        },
-    ),
-    (
-        57,
-        [255; 4],
-        WrongLength {
-            wanted: 85899345977,
-            found: 107,
-        },
-    ),
-    (
-        77,
-        [255; 4],
-        WrongLength {
-            wanted: 4294967392,
-            found: 107,
-        },
-    ),
-    (0, *b"RIPG", WrongMark { found: *b"RIPG" }),
-    (4, [9, 0, 0, 0], WrongVersion { found: 9 }),
-    (
-        4,
-        [1, 0, 0, 0],
-        WrongLength {
-            wanted: 58,
-            found: 107,
-        },
-    ),
-];
-
-// The place of the first change that is not refused so.
-fn other_change(shape: &Shape, rows: &[Change]) -> Option<usize>
-    requires { IsUsable shape.now }
-{
-    for (place, (at, four, why)) in rows.iter().enumerate() {
-        if refused_changed(shape, *at, *four) != Some(*why) {
-            return Some(place);
-        }
-    }
-    None
-}
-
-// The same of the set of the worked file.
-fn other_change_1(alloc: Global) -> Result<Option<usize>, OutOfMemory> {
-    let shape = row_1(alloc)?;
-    Ok(other_change(&shape, CHANGES))
-}
-
-#[test]
-fn the_first_check_that_fails_is_told(rt: HostRuntime) -> Result<(), OutOfMemory> {
-    assert_eq!(rt; other_change_1(rt.alloc())?, None);
-    Ok(())
-}
-
-const OTHER_SETS: &[Refusal] = &[
-    (
-        &[OTHER_FRONT, "01000000", C, "09000000 00000000 00000000"],
-        Some(OtherSet {
-            wanted: DIGEST,
-            found: OTHER,
-        }),
-    ),
-    (
-        &[OTHER_FRONT_1, "05000000 04 00000000 03000000"],
-        Some(OtherSet {
-            wanted: DIGEST,
-            found: OTHER,
-        }),
-    ),
-    (
-        &[FRONT, "00000000 00000000 00000000"],
-        Some(OtherSet {
-            wanted: DIGEST,
-            found: DIGEST,
-        }),
-    ),
-];
-
-#[test]
-fn files_of_other_sets(rt: HostRuntime) -> Result<(), OutOfMemory> {
-    assert_eq!(rt; other_refusal(rt.alloc(), OTHER_SETS)?, None);
-    Ok(())
-}
-
-// Two entries, and entries of a state that is none, of a good one, and of a hit too many.
-const TWO: &str = "00000000 00000000 02000000";
-
-const BAD: &str = "09000000 07 00000000 03000000";
-
-const GOOD: &str = "09000000 01 00000000 03000000";
-
-const LONG: &str = "0d000000 01 00000000 03000000 00000000";
-
-const ENTRIES: &[Refusal] = &[
-    (
-        &[OTHER_FRONT, TWO, A, BAD, A, LONG],
-        Some(BadEntry {
-            at: 86,
-            wanted: 9,
-            found: 13,
-        }),
-    ),
-    (
-        &[OTHER_FRONT, TWO, A, BAD, A, GOOD],
-        Some(BadState { at: 61, found: 7 }),
-    ),
-    (&[OTHER_FRONT, TWO, X, BAD, A, GOOD], None),
-    (&[OTHER_FRONT, TWO, X, "00000000", A, GOOD], None),
-];
-
-#[test]
-fn each_entry_of_an_own_name_is_judged(rt: HostRuntime) -> Result<(), OutOfMemory> {
-    assert_eq!(rt; other_refusal(rt.alloc(), ENTRIES)?, None);
-    Ok(())
-}
-
-const PLACES: &[Said] = &[
-    (
-        &[
-            FRONT,
-            "01000000",
-            X,
-            "09000000 00000000 01000000",
-            X,
-            "09000000 09 00000000 03000000",
-        ],
-        (9, 1, 3, true),
-    ),
-    (
-        &[
-            FRONT,
-            "02000000",
-            X,
-            "02000000",
-            C,
-            "09000000 00000000 01000000",
-            A,
-            GOOD,
-        ],
-        (9, 1, 3, false),
-    ),
-    (
-        &[
-            OTHER_FRONT,
-            "02000000",
-            C,
-            "01000000",
-            C,
-            "07000000 00000000 01000000",
-            A,
-            GOOD,
-        ],
-        (7, 1, 3, false),
-    ),
-    (
-        &[
-            OTHER_FRONT_2,
-            TWO,
-            A,
-            GOOD,
-            A,
-            "09000000 04 00000000 08000000",
-        ],
-        (0, 4, 8, true),
-    ),
-];
-
-#[test]
-fn places_where_the_file_is_of_this_set_and_names_else(rt: HostRuntime) -> Result<(), OutOfMemory> {
-    assert_eq!(rt; other_said(rt.alloc(), PLACES)?, None);
-    Ok(())
-}
 
 // A shape of two cells of one name, and of two achievements of one, the second with this many hits.
 fn forced(alloc: Global, second: u32) -> Result<Shape, OutOfMemory>
@@ -658,18 +288,6 @@ fn refused_bytes(alloc: Global, bytes: &[u8]) -> Result<Option<ProgressRefused>,
     Ok(check(&shape, bytes).err())
 }
 
-#[test]
-fn the_most_bytes(rt: HostRuntime) -> Result<(), OutOfMemory> {
-    let bytes = vec![in rt.alloc(); 0; 8388609]?;
-    let refused = refused_bytes(rt.alloc(), &bytes)?;
-    let long = WrongLength {
-        wanted: 8388608,
-        found: 8388609,
-    };
-    assert_eq!(rt; refused, Some(long));
-    Ok(())
-}
-
 // Foreign entries of no bytes.
 fn put_foreign(bytes: &mut Vec<u8>, count: u32) -> Result<(), OutOfMemory> {
     for _ in 0..count {
@@ -723,41 +341,6 @@ fn a_file_of_the_most_bytes(rt: HostRuntime) -> Result<(), OutOfMemory> {
     Ok(())
 }
 
-// The worked file, from its shape and what it keeps.
-fn worked(alloc: Global) -> Result<Vec<u8>, OutOfMemory> {
-    let shape = Shape {
-        digest: DIGEST,
-        cells: vec![in alloc; CELL]?,
-        priors: Vec::new(alloc),
-        items: vec![in alloc; ItemShape::Achievement { hits: 1 }]?,
-        item_names: vec![in alloc; ITEM]?,
-        presence: None,
-        presence_name: None,
-        cell_order: order_of(alloc, &[CELL], &None)?,
-        prior_order: order_of(alloc, &[], &None)?,
-        entry_order: order_of(alloc, &[ITEM], &None)?,
-    };
-    let kept = ItemKept::Achievement {
-        state: 4,
-        measured: 0,
-        hits: vec![in alloc; 3]?,
-        earned: true,
-    };
-    let snapshot = Snapshot {
-        frames: 5,
-        cells: vec![in alloc; 5]?,
-        priors: Vec::new(alloc),
-        items: vec![in alloc; kept]?,
-        presence: None,
-    };
-    encode(alloc, &shape, &snapshot)
-}
-
-fn is_worked(alloc: Global) -> Result<bool, OutOfMemory> {
-    let bytes = worked(alloc)?;
-    Ok(bytes.as_slice() == FILE.as_slice())
-}
-
 // The lengths of the file in the third version and in the first, and the places of the item in the first and the third.
 fn lengths(alloc: Global) -> Result<[u64; 4], OutOfMemory> {
     let shape = row_1(alloc)?;
@@ -780,7 +363,6 @@ fn matches_1(alloc: Global) -> Result<[(u32, u32); 2], OutOfMemory> {
 #[test]
 fn the_worked_file(rt: HostRuntime) -> Result<(), OutOfMemory> {
     let lengths = lengths(rt.alloc())? == [106, 58, 33, 81];
-    let matched = matches_1(rt.alloc())? == [(0, 1), (0, 0)];
-    assert!(rt; lengths && matched && is_worked(rt.alloc())?);
+    assert!(rt; lengths && matches_1(rt.alloc())? == [(0, 1), (0, 0)]);
     Ok(())
 }
