@@ -114,7 +114,7 @@ const IMPORT: Fault<'static> = Fault {
 // The set is read once, and once more at its end, and the trace once: nothing after its end record is asked for. Of a read
 // and a write that fail the line of the one is not written. A put comes before the line that tells it, so of a put and a
 // write that fail the status is that of the put, and after a put a write that fails leaves the file.
-const FAULTS: [Fault<'static>; 20] = [
+const RUNS: &[Fault<'static>] = &[
     Fault {
         reads: &[1],
         ..UNREAD
@@ -162,6 +162,9 @@ const FAULTS: [Fault<'static>; 20] = [
         left: ("p", OLDER),
         ..SAVE
     },
+];
+
+const PUTS: &[Fault<'static>] = &[
     Fault {
         reads: &[1],
         status: 4,
@@ -273,10 +276,21 @@ fn other_front(alloc: Global) -> Result<Option<u8>, OutOfMemory> {
     Ok(None)
 }
 
+#[test]
+fn a_fault_ends_a_run(rt: HostRuntime) -> Result<(), OutOfMemory> {
+    assert_eq!(rt; other_fault(rt.alloc(), RUNS)?, None);
+    Ok(())
+}
+
+#[test]
+fn a_fault_ends_a_job_that_puts_a_file(rt: HostRuntime) -> Result<(), OutOfMemory> {
+    assert_eq!(rt; other_fault(rt.alloc(), PUTS)?, None);
+    Ok(())
+}
+
 // No write is tried again.
 #[test]
-fn a_fault_ends_a_job(rt: HostRuntime) -> Result<(), OutOfMemory> {
-    assert_eq!(rt; other_fault(rt.alloc(), &FAULTS)?, None);
+fn a_failing_write_leaves_a_front(rt: HostRuntime) -> Result<(), OutOfMemory> {
     assert_eq!(rt; other_front(rt.alloc())?, None);
     Ok(())
 }

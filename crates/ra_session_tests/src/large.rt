@@ -201,7 +201,7 @@ const MANY_BYTES: Large = Large {
     ..CHECK
 };
 
-const SETS: [Large; 12] = [
+const SETS: &[Large] = &[
     CHECK,
     MANY_CONDITIONS,
     Large {
@@ -228,6 +228,9 @@ const SETS: [Large; 12] = [
         call: Call::Run(RUN),
         ..MANY_BYTES
     },
+];
+
+const DEEP: &[Large] = &[
     Large {
         long: &[("S", POINTERS)],
         text: b"achievements 1 leaderboards 0 conditions 65535 cells 65535 priors 0 md5 ac4c792c032c6818aa6a6ed3933cadbf\n",
@@ -274,7 +277,7 @@ const LONG_SCRIPT: Large = Large {
     ..NORMAL
 };
 
-const NORMALS: [Large; 5] = [
+const NORMALS: &[Large] = &[
     Large {
         long: &[("S", TERMS)],
         text: b"normal refused: conditions 65537 over 65536\n",
@@ -306,7 +309,7 @@ const IMPORT: Large = Large {
     ..CHECK
 };
 
-const DOCUMENTS: [Large; 3] = [
+const DOCUMENTS: &[Large] = &[
     Large {
         status: 0,
         text: b"imported achievements 0 leaderboards 0 presence 0\n",
@@ -316,7 +319,7 @@ const DOCUMENTS: [Large; 3] = [
     Large { more: 84, ..IMPORT },
 ];
 
-const IMPORTS: [Large; 2] = [
+const IMPORTS: &[Large] = &[
     Large {
         long: &[("F", BRACKETS)],
         text: b"import refused: json\n",
@@ -343,7 +346,7 @@ const RESTORE: Large = Large {
     ..CHECK
 };
 
-const PROGRESS: [Large; 3] = [
+const PROGRESS: &[Large] = &[
     Large {
         text: b"progress refused: mark 00000000 wanted 52415047\n",
         ..RESTORE
@@ -388,36 +391,42 @@ fn other_large(alloc: Global, rows: &[Large]) -> Result<Option<usize>, OutOfMemo
 
 #[test]
 fn sets_have_limits(rt: HostRuntime) -> Result<(), OutOfMemory> {
-    assert_eq!(rt; other_large(rt.alloc(), &SETS)?, None);
+    assert_eq!(rt; other_large(rt.alloc(), SETS)?, None);
+    Ok(())
+}
+
+#[test]
+fn deep_sets_are_played(rt: HostRuntime) -> Result<(), OutOfMemory> {
+    assert_eq!(rt; other_large(rt.alloc(), DEEP)?, None);
     Ok(())
 }
 
 #[test]
 fn normal_texts_have_limits(rt: HostRuntime) -> Result<(), OutOfMemory> {
-    assert_eq!(rt; other_large(rt.alloc(), &NORMALS)?, None);
+    assert_eq!(rt; other_large(rt.alloc(), NORMALS)?, None);
     Ok(())
 }
 
 #[test]
 fn documents_have_a_limit(rt: HostRuntime) -> Result<(), OutOfMemory> {
-    assert_eq!(rt; other_large(rt.alloc(), &DOCUMENTS)?, None);
+    assert_eq!(rt; other_large(rt.alloc(), DOCUMENTS)?, None);
     Ok(())
 }
 
 #[test]
 fn documents_that_are_refused_may_be_long(rt: HostRuntime) -> Result<(), OutOfMemory> {
-    assert_eq!(rt; other_large(rt.alloc(), &IMPORTS)?, None);
+    assert_eq!(rt; other_large(rt.alloc(), IMPORTS)?, None);
     Ok(())
 }
 
 #[test]
 fn progress_files_have_a_limit(rt: HostRuntime) -> Result<(), OutOfMemory> {
-    assert_eq!(rt; other_large(rt.alloc(), &PROGRESS)?, None);
+    assert_eq!(rt; other_large(rt.alloc(), PROGRESS)?, None);
     Ok(())
 }
 
 // A file, and its review.
-const REVIEWS: [(Long, &[u8]); 3] = [
+const REVIEWS: &[(Long, &[u8])] = &[
     (LINES, b"set refused: bytes 4194305 over 4194304\n"),
     (
         MORE_ITEMS,
@@ -463,6 +472,6 @@ fn other_review(alloc: Global, rows: &[(Long, &[u8])]) -> Result<Option<usize>, 
 
 #[test]
 fn a_review_tells_each_limit(rt: HostRuntime) -> Result<(), OutOfMemory> {
-    assert_eq!(rt; other_review(rt.alloc(), &REVIEWS)?, None);
+    assert_eq!(rt; other_review(rt.alloc(), REVIEWS)?, None);
     Ok(())
 }
