@@ -67,6 +67,14 @@ changed_set() {
         prints $at/later.out run $at/new.set $at/later.trace --restore "$room/progress"
 }
 
+# A line that cannot be printed has status 5, of both programs.
+cannot_print() {
+    "$player" check examples/small.set >/dev/full
+    [ $? -eq 5 ] || return 1
+    "$author" help >/dev/full
+    [ $? -eq 5 ]
+}
+
 # The text of a trace gives its bytes, and its bytes give a text of the same trace.
 both_ways() {
     examples/trace.py write "$1.txt" "$room/written" && cmp "$room/written" "$1.trace" &&
@@ -80,6 +88,7 @@ check_programs() {
         check "example-$name" prints examples/$name.out run examples/$name.set examples/$name.trace
     done
     check example-changed changed_set
+    check cannot-print cannot_print
     has cases python3 && check cases bench/cases.py "$player" "$author"
     for name in small forest changed/first changed/later; do
         has "trace-${name//\//-}" python3 && check "trace-${name//\//-}" both_ways "examples/$name"
