@@ -10,7 +10,7 @@ It prints the definitions in the order to read, each after those that it names, 
 docs/DEFINITIONS.md that their file names; then how many definitions, lines and crates these are, which names of the
 kit's specifications they use, and what the kit trusts. --counts prints the counts alone, --names the names alone. A line
 counts where it is neither blank nor a comment. --meaning writes docs/MEANING.md, what `play answers --run` rests on, a
-chapter a concept, by bench/meaning.txt; with --check it only compares the page.
+chapter a concept, by bench/meaning.txt, and the worked examples of bench/worked.txt; with --check it only compares the page.
 
 What is named is found by the `use` lines of each file and the binders of each term (bench/antt.py), and by the `use`
 lines of .rt files for the types in them (bench/contracts.py); the status is 1 at a name that stands for nothing. With a
@@ -28,6 +28,7 @@ import signal
 import sys
 
 import antt
+import worked
 from library import ROOT, Library, Shown, claims
 
 PAGE = f"{ROOT}/docs/MEANING.md"
@@ -162,9 +163,11 @@ def page(library):
     counts = {"definitions": len(order), "lines": lines_of(order), "crates": len({it.crate() for it in order}), "kit": len(kit)}
     parts, contents = ["\n".join(head.words).format(**counts).strip()], by_chapter(order, all_chapters)
     parts.append("\n".join(["| Chapter | Definitions | Lines |", "|---|---|---|", *map(row, contents.items())]))
+    parts.append(f"[{worked.TITLE}](#{anchor(worked.TITLE)}) come last.")
     for chapter in all_chapters:
         parts += [f"## {chapter.title}", "\n".join(chapter.words).strip()]
         parts += section(library, contents[chapter.title])
+    parts += worked.chapter(order)
     return "\n\n".join(parts) + "\n"
 
 
