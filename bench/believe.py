@@ -2,7 +2,7 @@
 """What one has to believe for a clause: every definition that its meaning rests on, and no other.
 
 usage: bench/believe.py CLAUSE [--run] [--views] [--counts | --names]
-       bench/believe.py --meaning [--check]
+       bench/believe.py --meaning | --table [--check]
 CLAUSE is a public function and its clause, as "play answers", "meerkat_frame played", "ra_author::author ends" or
 "Runtime::frame taken", or a function alone, as a law, for all its clauses; in one word or two.
 
@@ -10,7 +10,8 @@ It prints the definitions in the order to read, each after those that it names, 
 docs/DEFINITIONS.md that their file names; then how many definitions, lines and crates these are, which names of the
 kit's specifications they use, and what the kit trusts. --counts prints the counts alone, --names the names alone. A line
 counts where it is neither blank nor a comment. --meaning writes docs/MEANING.md, what `play answers --run` rests on, a
-chapter a concept, by bench/meaning.txt, and the worked examples of bench/worked.txt; with --check it only compares the page.
+chapter a concept, by bench/meaning.txt, and the worked examples of bench/worked.txt; --table the numbers in the table of
+docs/PROVED.md that says what each promise rests on. With --check both only compare, and --meaning compares both.
 
 What is named is found by the `use` lines of each file and the binders of each term (bench/antt.py), and by the `use`
 lines of .rt files for the types in them (bench/contracts.py); the status is 1 at a name that stands for nothing. With a
@@ -28,10 +29,11 @@ import signal
 import sys
 
 import antt
+import promises
 import worked
 from library import ROOT, Library, Shown, claims
 
-PAGE = f"{ROOT}/docs/MEANING.md"
+PAGE, PROVED = f"{ROOT}/docs/MEANING.md", f"{ROOT}/docs/PROVED.md"
 CHAPTERS = f"{ROOT}/bench/meaning.txt"
 HEADLINE = "play answers"
 JOB, ENDING = "ra_args/specs/Words.antt Job", "ra_session/src/ending.rt Ending"
@@ -203,25 +205,39 @@ def the_claim(library, words):
     return found[0]
 
 
-def write_page(library, only_compare):
-    text = page(library)
-    if only_compare:
-        same = os.path.exists(PAGE) and pathlib.Path(PAGE).read_text(encoding="utf-8") == text
-        print("docs/MEANING.md is what the definitions say" if same else "docs/MEANING.md is not: bench/believe.py --meaning writes it")
-        return 0 if same else 1
-    with open(PAGE, "w", encoding="utf-8") as it:
-        it.write(text)
-    return 0
+def table(library):
+    """The text of docs/PROVED.md with the numbers of its table."""
+    def count(words, run):
+        found, _ = reached(library, the_claim(library, words), run, False)
+        return len(found), lines_of(found.values()), len({shown.crate() for shown in found.values()})
+
+    return promises.counted(pathlib.Path(PROVED).read_text(encoding="utf-8"), count)
+
+
+def write_pages(library, made, only_compare):
+    """Writes pages, each by what makes its text, or compares them. The status is how many differ."""
+    differ = 0
+    for path, text_of in made:
+        text = text_of(library)
+        if only_compare:
+            same = os.path.exists(path) and pathlib.Path(path).read_text(encoding="utf-8") == text
+            differ += not same
+            print(f"{os.path.relpath(path, ROOT)} {'is' if same else 'is not'} what the definitions say")
+        else:
+            pathlib.Path(path).write_text(text, encoding="utf-8")
+    if differ:
+        print("bench/believe.py --meaning and bench/believe.py --table write them")
+    return differ
 
 
 def read_words():
     words = argparse.ArgumentParser(usage=__doc__[__doc__.index("usage: ") + 7 :], add_help=False)
     words.add_argument("clause", nargs="*")
-    for name in ("run", "views", "counts", "names", "meaning", "check"):
+    for name in ("run", "views", "counts", "names", "meaning", "table", "check"):
         words.add_argument(f"--{name}", action="store_true")
     found = words.parse_args()
-    if bool(found.clause) == found.meaning:
-        words.error("a clause, or --meaning")
+    if bool(found.clause) + found.meaning + found.table != 1:
+        words.error("a clause, --meaning or --table")
     return found
 
 
@@ -229,8 +245,9 @@ def main():
     words, library = read_words(), Library()
     signal.signal(signal.SIGPIPE, signal.SIG_DFL)
     try:
-        if words.meaning:
-            return write_page(library, words.check)
+        if words.meaning or words.table:
+            made = [(PAGE, page)] * words.meaning + [(PROVED, table)] * (words.table or words.check)
+            return write_pages(library, made, words.check)
         found, kit = reached(library, the_claim(library, " ".join(words.clause)), words.run, words.views)
     except (antt.Unplaced, antt.Unread) as why:
         print(f"{os.path.basename(sys.argv[0])}: {why}", file=sys.stderr)
