@@ -39,12 +39,15 @@ HEADLINE = "play answers"
 JOB, ENDING = "ra_args/specs/Words.antt Job", "ra_session/src/ending.rt Ending"
 CUT = {antt.Target(JOB, name) for name in "Check Make Import Lint Normal Explain".split()}
 CUT |= {antt.Target(ENDING, name) for name in "BadDocument LongNormal NoAchievement ManyRows".split()}
-TRUSTED = """what the kit trusts, by the last line of `rt check` (START-HERE.md and rattle/REPOSITORY.md of the kit):
+TRUSTED = """what the kit trusts, by the last lines of `rt check` of ra_player (START-HERE.md and rattle/REPOSITORY.md of the kit):
+  axioms=39                  the contracts of 39 C functions, 29 of libc and 10 of os, that `main` reaches (of ra_c 3, of ra_calls none)
+  target= cpu= linked        that the machine does what the compiled program says, with the kit's C code libos_c.a and liblibc_c.a
+  sum=dac8208d650f15bf       the logic of rattle-kit-13f
   native=nat,char,string     the numbers, characters and texts of antt are computed natively, by GMP
   logic-built=trusted        the logic in which statements are made was checked when the kit was built
   libraries-built=trusted    so were std and the kit's crates
   statements=trusted         what a clause states of the code is written by the toolchain
-  sum=dac8208d650f15bf       the logic of rattle-kit-13f; without the words axioms= and foreign= no axiom and no C function"""
+without the word foreign= the repository calls no C function of its own"""
 
 
 def without_other_jobs(shown):
