@@ -15,7 +15,7 @@ LINK = re.compile(r"\[[^]]*\]\(([^)\s]+)\)")
 PATH = re.compile(r"`((?:[\w.-]+/)+[\w.-]*)`")
 # What is there only after a build or an installation.
 BUILT = re.compile(r"(^|/)out(/|$)|^(bin|lib|share|include)/")
-DOCUMENT = r"(?:docs/)?\b(README|ARCHITECTURE|CONTRIBUTING|DECISIONS|DEFINITIONS|EMBEDDING|GLOSSARY|INTERNALS|MEANING|PROVED|SETS)\b(?:\.md)?"
+DOCUMENT = r"(?:docs/)?\b(README|ARCHITECTURE|CONTRIBUTING|COSTS|DECISIONS|DEFINITIONS|EMBEDDING|GLOSSARY|INTERNALS|MEANING|PROVED|SETS)\b(?:\.md)?"
 CITED = re.compile(DOCUMENT + r"(?:\]\([^)]*\))?[,:]?\s+(?://+!?\s*|--\s*)?\"([^\"]+)\"")
 
 
