@@ -1,5 +1,5 @@
 #!/bin/sh
-# What a frame of a game costs: prints the figures of docs/ARCHITECTURE.md, "On a game".
+# What a frame of a game costs: prints the figures of docs/COSTS.md, "A recorded game".
 # usage: bench/game.sh [PLAYER], where PLAYER is the built program; where it is not named it is found, or built
 # The trace is the recording of examples/libretro. Instructions are counted by callgrind: those of a run, without those of a run over
 # a trace without frames, a frame. So the player's have its writes in them, the printed lines and the saves and restores of the

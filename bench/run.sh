@@ -1,5 +1,5 @@
 #!/bin/sh
-# What the player costs: prints the table of docs/ARCHITECTURE.md, "What it costs".
+# What the player costs: prints the table of docs/COSTS.md, "Whole runs".
 # usage: bench/run.sh [PLAYER [FRAMES]]
 # PLAYER is the built program; where it is not named it is found, or built. FRAMES are those of the 4,000 achievements,
 # 1,000 where they are not named. Instructions are counted by callgrind, so they are the same on every machine.
