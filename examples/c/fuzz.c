@@ -5,14 +5,13 @@
  * the progress bytes as they were, a frame has no more events than the header says, two games with the same calls give the
  * same, and a state that is taken from a slot is what a restore of the bytes makes that were saved there. It prints one line, and ends with
  * status 1 at the first violation, after a line that tells it. Linked with -Wl,--wrap=malloc,--wrap=realloc. */
+#include "fuzz.h"
 #include "meerkat.h"
 
 #include <stdio.h>
 #include <stdlib.h>
 #include <string.h>
 
-static uint64_t seed;
-static long calls_done, calls_wanted = 100000;
 static int fails;
 static long allocations, failing;
 
@@ -27,16 +26,6 @@ void *__wrap_malloc(size_t size) {
 void *__wrap_realloc(void *old, size_t size) {
     if (failing > 0 && ++allocations % failing == 0) return NULL;
     return __real_realloc(old, size);
-}
-
-static uint32_t below(uint32_t most) {
-    seed = seed * 6364136223846793005u + 1442695040888963407u;
-    return most == 0 ? 0 : (uint32_t)((seed >> 33) % most);
-}
-
-static void stop(const char *what, uint32_t found) {
-    printf("violation after %ld calls: %s (%u)\n", calls_done, what, found);
-    exit(1);
 }
 
 /* Whether a code is one of these, or memory that may run out. */

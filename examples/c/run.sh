@@ -1,6 +1,6 @@
 #!/bin/sh
-# Builds the programs of this folder over an archive, runs them, and compares what they print; fuzz makes 10,000 calls, and as many
-# with allocations that fail.
+# Builds the programs of this folder over an archive, runs them, and compares what they print; model and fuzz make 10,000 calls, and
+# fuzz as many with allocations that fail.
 # usage: examples/c/run.sh ARCHIVE, the libra_c.a of crates/ra_c
 set -eu
 archive=$(realpath -e "$1")
@@ -19,5 +19,6 @@ for name in small forest; do
     cmp "../$name.out" "$folder/play.out"
 done
 "$folder/allocations"
+"$folder/model" 10000
 "$folder/fuzz" 10000
 "$folder/fuzz" 10000 1 1
