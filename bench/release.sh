@@ -58,8 +58,6 @@ top=$room/$name
 mkdir -p "$top/bin" "$top/share/doc/meerkatalloy/docs" "$top/share/meerkatalloy"
 install -m 755 "$room/ra_player" "$room/ra_author" "$top/bin/"
 "$root/crates/ra_c/install.sh" "$top" "$archive"
-# (an archive that is unpacked anywhere: its place is told by that of the file)
-sed -i 's|^prefix=.*|prefix=${pcfiledir}/../..|' "$top/lib/pkgconfig/meerkat.pc"
 "$root/bench/words.py" install "$top"
 "$root/bench/words.py" check "$room/ra_player" "$room/ra_author"
 # (all documents, in their folders, so that their links lead somewhere)
