@@ -131,16 +131,32 @@ c_allocations() {
     make -s -C examples/c OUT="$room/c" ARCHIVE="$PWD/$archive" "$room/c/allocations" && "$room/c/allocations"
 }
 
+# The functions of memory for processors that the kit has none for meet their contract.
+c_memory() {
+    local flags="-std=c11 -O2 -Wall -Wextra -Wpedantic -Werror"
+    cc $flags examples/c/memory.c examples/c/memory_test.c -Wl,--wrap=malloc,--wrap=realloc,--wrap=free -o "$room/memory" && "$room/memory"
+}
+
+# What is installed has one version everywhere, also where its libraries lie in another folder.
+c_versions() {
+    crates/ra_c/install.sh "$room/prefix" "$archive" && examples/c/versions.sh "$room/prefix" &&
+        LIBDIR=lib/deeper crates/ra_c/install.sh "$room/deeper" "$archive" && examples/c/versions.sh "$room/deeper" &&
+        examples/c/installed.sh "$room/deeper"
+}
+
 check_c() {
     has c-compiled cc && check c-compiled compiles
     has c-programs cc make || return
+    check c-memory c_memory
     check c-archive examples/c/archive.sh
     if [ -f "$archive" ]; then
         check c-programs examples/c/run.sh "$archive"
         check c-allocations c_allocations
+        has c-versions ld objcopy ar readelf nm && check c-versions c_versions
     else
         skip c-programs "there is no archive"
         skip c-allocations "there is no archive"
+        skip c-versions "there is no archive"
     fi
 }
 
