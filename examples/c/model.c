@@ -353,13 +353,13 @@ int main(int word_count, char **word) {
     if (word_count > 1) calls_wanted = atol(word[1]);
     seed = word_count > 2 ? (uint64_t)atol(word[2]) : 1;
     while (calls_done < calls_wanted) {
-        uint32_t steps = below(100);
+        uint32_t steps = below(100), records;
         make_bad();
         judge();
         import();
         make();
         if (below(4)) make_slots();
-        if (below(4)) record();
+        for (records = below(4); records > 0; records--) record();
         while (steps-- > 0) play();
         drop();
     }
